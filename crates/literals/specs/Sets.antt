@@ -1,8 +1,9 @@
 -- Sets of small numbers, each held as one number: the sum of 2 ^ k over its members k. A set of literals and a mask of
 -- defeasible rules are both such sets. Written with division and remainder, so that they compute. Assumes nothing.
-use mathlib.Core.Bool.{Bool, true, false, _&&_, _||_}
+use mathlib.Core.Path.{_≡_}
+use mathlib.Core.Bool.{Bool, true, false, not, _&&_, _||_}
 use mathlib.Core.List.{List, [], _∷_}
-use Prim.Native.Nat.{ℕ, zero, suc, _+_, _-_, _*_, _/_, _%_, _^_}
+use Prim.Native.Nat.{ℕ, zero, suc, _+_, _-_, _*_, _/_, _%_, _^_, _<_}
 use lib.Dec.{eqb}
 use lib.Bits.{bitAnd, bitOr}
 
@@ -48,6 +49,16 @@ minus a b = a - bitAnd a b
 -- each member of a is one of b
 abbrev pub within : ℕ → ℕ → Bool
 within a b = eqb (bitAnd a b) a
+
+-- some number is a member of both
+abbrev pub meets : ℕ → ℕ → Bool
+meets a b = not (eqb (bitAnd a b) 0)
+
+-- k is the lowest member of a word
+pub record Lowest (s k : ℕ) : Type 0 where
+  pub member : has s k ≡ true
+  pub least : (j : ℕ) → j < k → has s j ≡ false
+  pub small : k < 64
 
 -- "derives some literal and its complement": 2a and 2a + 1 are both members, for some a below n
 unfoldable pub clashBelow : ℕ → ℕ → Bool

@@ -3,7 +3,8 @@
 ghost use mathlib.Core.Path.{_≡_};
 ghost use Prim.Native.Nat.{_<_};
 ghost use lib.Dec.{eqb};
-ghost use Rattle.literals.specs.Sets.{has as «hasOf», insert as «insertOf», union as «unionOf», minus as «minusOf», within as «withinOf», clash};
+ghost use lib.Count.{ones};
+ghost use Rattle.literals.specs.Sets.{has as «hasOf», insert as «insertOf», union as «unionOf», minus as «minusOf», within as «withinOf», meets as «meetsOf», clash};
 ghost use Rattle.literals.specs.Words.{setOf};
 
 pub mod masks;
@@ -38,5 +39,82 @@ impl LiteralSet {
                 hi: self.hi | (1u64 << (literal - 64)),
             }
         }
+    }
+
+    // The literal is a member.
+    pub fn has(self, literal: u64) -> bool
+        requires { ⌜ literal < 128 ⌝ }
+        ensures { λ r. ⌜ r ≡ hasOf (setOf self) literal ⌝ }
+    {
+        if literal < 64 {
+            (self.lo >> literal) % 2 == 1
+        } else {
+            (self.hi >> (literal - 64)) % 2 == 1
+        }
+    }
+
+    // Each member is one of the other set.
+    pub fn within(self, other: LiteralSet) -> bool
+        ensures { λ r. ⌜ r ≡ withinOf (setOf self) (setOf other) ⌝ }
+    {
+        (self.lo & other.lo == self.lo) & (self.hi & other.hi == self.hi)
+    }
+
+    // The members of either set.
+    pub fn union(self, other: LiteralSet) -> LiteralSet
+        ensures { λ r. ⌜ setOf r ≡ unionOf (setOf self) (setOf other) ⌝ }
+    {
+        LiteralSet {
+            lo: self.lo | other.lo,
+            hi: self.hi | other.hi,
+        }
+    }
+
+    // The members that the other set lacks.
+    pub fn minus(self, other: LiteralSet) -> LiteralSet
+        ensures { λ r. ⌜ setOf r ≡ minusOf (setOf self) (setOf other) ⌝ }
+    {
+        LiteralSet {
+            lo: self.lo - (self.lo & other.lo),
+            hi: self.hi - (self.hi & other.hi),
+        }
+    }
+
+    // Both sets have the same members.
+    pub fn same(self, other: LiteralSet) -> bool
+        ensures { λ r. ⌜ r ≡ eqb (setOf self) (setOf other) ⌝ }
+    {
+        (self.lo == other.lo) & (self.hi == other.hi)
+    }
+
+    // Both sets have some member.
+    pub fn meets(self, other: LiteralSet) -> bool
+        ensures { λ r. ⌜ r ≡ meetsOf (setOf self) (setOf other) ⌝ }
+    {
+        (self.lo & other.lo) | (self.hi & other.hi) != 0
+    }
+
+    // No literal is a member.
+    pub fn is_empty(self) -> bool
+        ensures { λ r. ⌜ r ≡ eqb (setOf self) 0 ⌝ }
+    {
+        self.lo | self.hi == 0
+    }
+
+    // How many members there are.
+    pub fn count(self) -> u64
+        ensures { λ r. ⌜ r ≡ ones (setOf self) ⌝ }
+    {
+        u64::count_ones(self.lo) as u64 + u64::count_ones(self.hi) as u64
+    }
+
+    // Some literal and its complement are members: 2a and 2a + 1. A digit of w & (w >> 1) is set where two digits in a
+    // row are, and the mask keeps the pairs that begin at an even digit.
+    pub fn contradictory(self) -> bool
+        ensures { λ r. ⌜ r ≡ clash (setOf self) ⌝ }
+    {
+        let lo = self.lo & (self.lo >> 1) & 0x5555_5555_5555_5555;
+        let hi = self.hi & (self.hi >> 1) & 0x5555_5555_5555_5555;
+        lo | hi != 0
     }
 }
