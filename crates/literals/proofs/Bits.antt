@@ -8,6 +8,7 @@ use native.Mathlib.Numerals.{one-add}
 use native.Mathlib.Omega.{arith}
 use lib.Arith.{bin-ind}
 use lib.Pow.{shr-shr, pow-mono}
+use lib.Count.{trailingZeros, under}
 use lib.Bits.{bitAnd, bitOr, and-step, or-step, and-shr, or-shr, and-le-l}
 use Rattle.literals.specs.Sets.{bit, minus}
 
@@ -129,3 +130,27 @@ bit-ext =
     (λ a half b h.
     let e : a / 2 ≡ b / 2 = half (b / 2) (λ k. sym (bit-half a k) ∙ h (suc k) ∙ bit-half b k) in
     omega (arith, bit-first a, bit-first b, h 0))
+
+-- the zeros below a number's lowest digit, and that digit
+pub bit-trailing : (n s : ℕ) → s < 2 ^ n → (s ≡ 0 → ⊥) → bit s (trailingZeros n s) ≡ 1
+unfolding trailingZeros
+bit-trailing zero s l e = absurd (e (omega arith))
+bit-trailing (suc n) s l e =
+    go (digit-cases (s % 2) (omega arith)) (λ q. bit-trailing n (s / 2) (omega (arith, pow-suc 2 n)) q)
+  where
+    go : (s % 2 ≡ 0) ⊎ (s % 2 ≡ 1) → ((s / 2 ≡ 0 → ⊥) → bit (s / 2) (trailingZeros n (s / 2)) ≡ 1)
+        → bit s (under (s % 2) (trailingZeros n (s / 2))) ≡ 1
+    go (inl z) half = rw z (bit-half s (trailingZeros n (s / 2)) ∙ half (λ q. e (omega arith)))
+    go (inr o) half = rw o (bit-first s ∙ o)
+
+pub bit-under-trailing : (n s k : ℕ) → k < trailingZeros n s → bit s k ≡ 0
+unfolding trailingZeros
+bit-under-trailing zero s k l = absurd (omega arith)
+bit-under-trailing (suc n) s k l = go (digit-cases (s % 2) (omega arith)) k l (λ j h. bit-under-trailing n (s / 2) j h)
+  where
+    go : (s % 2 ≡ 0) ⊎ (s % 2 ≡ 1) → (k : ℕ) → k < under (s % 2) (trailingZeros n (s / 2))
+        → ((j : ℕ) → j < trailingZeros n (s / 2) → bit (s / 2) j ≡ 0) → bit s k ≡ 0
+    go (inl z) zero h half = bit-first s ∙ z
+    go (inl z) (suc j) h half =
+        let g : suc j < suc (trailingZeros n (s / 2)) = rw z at h in bit-half s j ∙ half j (omega arith)
+    go (inr o) k h half = let g : k < 0 = rw o at h in absurd (omega arith)

@@ -6,3 +6,4 @@ pub mod Lists
 pub mod Within
 pub mod Clashes
 pub mod Words
+mod Pairs

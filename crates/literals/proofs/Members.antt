@@ -1,16 +1,16 @@
 -- What the members of each set are. Assumes nothing.
 use mathlib.Core.Path.{_≡_, refl, sym, ap, _∙_, subst}
-use mathlib.Core.Bool.{Bool, true, false, not, _&&_, _||_}
+use mathlib.Core.Bool.{Bool, true, false, not, _&&_, _||_, false≢true}
 use mathlib.Core.Logic.{_⊎_, inl, inr, ⊎-elim}
 use Prim.Native.Nat.{ℕ, zero, suc, _+_, _-_, _*_, _/_, _^_, _<_, min, max}
 use native.Mathlib.Nat.{one-mul, zero-mul}
 use native.Mathlib.Omega.{arith}
 use lib.Dec.{eqb}
 use lib.Pow.{pow-lt}
-use lib.Bits.{bitAnd, or-add-and, or-lt}
+use lib.Bits.{bitAnd, or-add-and, or-lt, and-le-l, and-le-r}
 use borrow.Author.Tests.{eqb-true, eqb-false, eq-eqb, ne-eqb}
 use Rattle.literals.specs.Sets.{bit, has, choose, insert, union, minus}
-use Rattle.literals.proofs.Tests.{same-test, or-right, or-cases}
+use Rattle.literals.proofs.Tests.{same-test, and-intro, and-left, and-right, or-right, or-cases}
 use Rattle.literals.proofs.Bits.{bit-below, bit-cases, bit-half, bit-empty, bit-and, bit-or, bit-minus, bit-power-same, bit-power-only, bit-bound, bits-below, bit-some, bit-ext, and-power}
 
 -- membership and the digit
@@ -46,12 +46,15 @@ has-bound s n k l e = bit-bound s n k l (has-bit s k e)
 pub members-below : (n s : ℕ) → ((k : ℕ) → has s k ≡ true → k < n) → s < 2 ^ n
 members-below n s h = bits-below n s (λ k e. h k (bit-has s k e))
 
--- a set that is not empty has a member
+pub has-empty : (k : ℕ) → has 0 k ≡ false
+has-empty k = bit-lacks 0 k (bit-empty k)
+
+-- a set is not empty exactly if it has a member
 pub has-some : (s : ℕ) → (s ≡ 0 → ⊥) → (k : ℕ) × (has s k ≡ true)
 has-some s n = let r = bit-some s n in (r .0, bit-has s (r .0) (r .1))
 
-pub has-empty : (k : ℕ) → has 0 k ≡ false
-has-empty k = bit-lacks 0 k (bit-empty k)
+pub has-not-empty : (s k : ℕ) → has s k ≡ true → s ≡ 0 → ⊥
+has-not-empty s k e z = false≢true (sym (has-empty k) ∙ ap (λ (x : ℕ). has x k) (sym z) ∙ e)
 
 pub has-half : (s k : ℕ) → has (s / 2) k ≡ has s (suc k)
 unfolding has
@@ -85,6 +88,18 @@ unfolding has
 has-union a b k =
     ap (λ (x : ℕ). eqb x 1) (bit-or a b k)
     ∙ by-digits max _||_ refl refl refl refl (bit a k) (bit b k) (bit-below a k) (bit-below b k)
+
+pub union-empty : (a b : ℕ) → eqb (union a b) 0 ≡ (eqb a 0 && eqb b 0)
+union-empty a b =
+    same-test (eqb (union a b) 0) (eqb a 0 && eqb b 0)
+    (λ e.
+    let z : union a b ≡ 0 = eqb-true (union a b) 0 e in
+    and-intro (eqb a 0) (eqb b 0) (eq-eqb a 0 (omega (arith, or-add-and a b, and-le-r a b)))
+    (eq-eqb b 0 (omega (arith, or-add-and a b, and-le-l a b))))
+    (λ e.
+    let p : a ≡ 0 = eqb-true a 0 (and-left (eqb a 0) (eqb b 0) e) in
+    let q : b ≡ 0 = eqb-true b 0 (and-right (eqb a 0) (eqb b 0) e) in
+    eq-eqb (union a b) 0 (omega (arith, or-add-and a b)))
 
 pub has-minus : (a b k : ℕ) → has (minus a b) k ≡ (has a k && not (has b k))
 unfolding has

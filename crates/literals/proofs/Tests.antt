@@ -1,10 +1,8 @@
 -- Facts about the outcomes of tests. Assumes nothing.
 use mathlib.Core.Path.{_≡_, refl, sym}
-use mathlib.Core.Bool.{Bool, true, false, _&&_, _||_, false≢true}
+use mathlib.Core.Bool.{Bool, true, false, not, _&&_, _||_, false≢true}
 use mathlib.Core.Logic.{_⊎_, inl, inr}
-use Prim.Native.Nat.{ℕ}
-use lib.Dec.{T, eqb}
-use borrow.Author.Tests.{eqb-true, eq-eqb}
+use lib.Dec.{T}
 
 pub true-T : (t : Bool) → t ≡ true → T t
 true-T true e = tt
@@ -24,10 +22,6 @@ pub same-test : (a b : Bool) → (a ≡ true → b ≡ true) → (b ≡ true →
 same-test true b f g = sym (f refl)
 same-test false true f g = g refl
 same-test false false f g = refl
-
--- the same for two comparisons
-pub same-eqb : (x y u v : ℕ) → (x ≡ y → u ≡ v) → (u ≡ v → x ≡ y) → eqb x y ≡ eqb u v
-same-eqb x y u v f g = same-test (eqb x y) (eqb u v) (λ e. eq-eqb u v (f (eqb-true x y e))) (λ e. eq-eqb x y (g (eqb-true u v e)))
 
 -- what a conjunction needs and gives, and a disjunction
 pub and-intro : (a b : Bool) → a ≡ true → b ≡ true → (a && b) ≡ true
@@ -53,3 +47,7 @@ or-right false b e = e
 pub or-cases : (a b : Bool) → (a || b) ≡ true → (a ≡ true) ⊎ (b ≡ true)
 or-cases true b e = inl refl
 or-cases false b e = inr e
+
+pub not-and : (a b : Bool) → not (a && b) ≡ (not a || not b)
+not-and true b = refl
+not-and false b = refl

@@ -13,7 +13,7 @@ use borrow.Author.Tests.{eqb-true, eqb-false, eq-eqb, ne-eqb, not-true}
 use Rattle.literals.specs.Sets.{bit, has, insert, union, minus, within, meets}
 use Rattle.literals.proofs.Tests.{and-intro, and-left, and-right, or-left, or-right, or-cases}
 use Rattle.literals.proofs.Bits.{bit-first, bit-half, bit-and, digit-cases}
-use Rattle.literals.proofs.Members.{has-ext, has-some, has-empty, has-power, has-and, has-union, has-minus, insert-cases, insert-keeps}
+use Rattle.literals.proofs.Members.{has-ext, has-some, has-not-empty, has-empty, has-power, has-and, has-union, has-minus, insert-cases, insert-keeps}
 
 -- a is within b exactly if each member of a is one of b
 pub within-each : (a b : ℕ) → within a b ≡ true → (k : ℕ) → has a k ≡ true → has b k ≡ true
@@ -122,5 +122,4 @@ meets-both a b e = found (has-some (bitAnd a b) (eqb-false (bitAnd a b) 0 (not-t
 
 pub both-meets : (a b k : ℕ) → has a k ≡ true → has b k ≡ true → meets a b ≡ true
 both-meets a b k p q =
-    ap not (ne-eqb (bitAnd a b) 0 (λ z.
-    false≢true (sym (has-empty k) ∙ ap (λ (x : ℕ). has x k) (sym z) ∙ has-and a b k ∙ and-intro (has a k) (has b k) p q)))
+    ap not (ne-eqb (bitAnd a b) 0 (has-not-empty (bitAnd a b) k (has-and a b k ∙ and-intro (has a k) (has b k) p q)))

@@ -1,19 +1,21 @@
 -- A set held in two words: its digits are those of the words, and each operation goes word by word. Assumes nothing.
 use mathlib.Core.Path.{_≡_, sym, ap, ap₂, _∙_}
-use mathlib.Core.Bool.{_&&_}
-use Prim.Native.Nat.{ℕ, zero, suc, _+_, _*_, _/_, _%_, _^_, _<_}
+use mathlib.Core.Bool.{true, _&&_, _||_}
+use mathlib.Core.Logic.{⊎-elim}
+use Prim.Native.Nat.{ℕ, zero, suc, _+_, _-_, _*_, _/_, _%_, _^_, _<_}
 use native.Mathlib.Nat.{one-mul, zero-add, add-zero}
 use native.Mathlib.Omega.{arith}
 use lib.Arith.{digits-lt}
-use lib.Bits.{bitAnd, bitOr, and-block, or-block, block-half, block-odd, and-le-l, and-le-r, or-zero-r, or-add-and}
+use lib.Bits.{bitAnd, bitOr, and-block, or-block, block-half, block-odd, and-le-l, or-zero-r}
 use lib.Dec.{eqb, lit<}
 use lib.Pow.{shr-shr, high, shl-exact, pow-lt, pow-add}
 use borrow.Author.Tests.{eqb-true, eq-eqb}
-use Rattle.literals.specs.Sets.{bit, has, insert, union, minus}
+use Rattle.literals.specs.Sets.{bit, has, insert, union, minus, clashBelow, clash}
 use Rattle.literals.specs.Words.{joined}
-use Rattle.literals.proofs.Tests.{same-test, same-eqb, and-intro, and-left, and-right}
+use Rattle.literals.proofs.Tests.{same-test, and-intro, and-left, and-right, or-left, or-right, or-cases}
 use Rattle.literals.proofs.Bits.{bit-first, bit-half}
-use Rattle.literals.proofs.Members.{insert-union}
+use Rattle.literals.proofs.Members.{union-empty, insert-union}
+use Rattle.literals.proofs.Clashes.{Pair, clash-pair, pair-clash}
 
 -- a number of n digits below another
 pub bit-low : (h w n k : ℕ) → k < n → bit (h * 2 ^ n + w) k ≡ bit w k
@@ -39,9 +41,12 @@ has-joined-high h w k p = ap (λ (x : ℕ). eqb x 1) (bit-high h w 64 k p)
 pub joined-below : (h w : ℕ) → h < 2 ^ 64 → w < 2 ^ 64 → joined h w < 2 ^ 128
 joined-below h w p q = digits-lt p q
 
--- `1 << k` at n bits
-pub shifted-one : (n k : ℕ) → k < n → (1 * 2 ^ k) % 2 ^ n ≡ 2 ^ k
-shifted-one n k l = shl-exact {a = 1} 1 k n (omega arith) (omega arith) ∙ one-mul (2 ^ k)
+-- `1 << k` in a word, and its digit put into one
+pub shifted-one : (k : ℕ) → k < 64 → (1 * 2 ^ k) % 2 ^ 64 ≡ 2 ^ k
+shifted-one k l = shl-exact {a = 1} 1 k 64 (omega arith) (omega arith) ∙ one-mul (2 ^ k)
+
+pub shifted-insert : (w k : ℕ) → k < 64 → bitOr w ((1 * 2 ^ k) % 2 ^ 64) ≡ insert w k
+shifted-insert w k l = ap (bitOr w) (shifted-one k l) ∙ sym (insert-union w k)
 
 -- the two words a, b and the two words c, d, high word first
 module _ (a b c d : ℕ) (hb : b < 2 ^ 64) (hd : d < 2 ^ 64) where
@@ -66,14 +71,8 @@ module _ (a b c d : ℕ) (hb : b < 2 ^ 64) (hd : d < 2 ^ 64) where
       and-intro (eqb b d) (eqb a c) (eq-eqb b d s) (eq-eqb a c r))
 
 -- two words hold the empty set exactly if both are 0
-pub joined-empty : (h w : ℕ) → eqb (bitOr w h) 0 ≡ eqb (joined h w) 0
-joined-empty h w =
-    same-eqb (bitOr w h) 0 (joined h w) 0
-    (λ e.
-    let p : w ≡ 0 = omega (arith, or-add-and w h, and-le-r w h) in
-    let q : h ≡ 0 = omega (arith, or-add-and w h, and-le-l w h) in
-    ap₂ joined q p)
-    (λ e. omega (arith, or-add-and w h))
+pub joined-empty : (h w : ℕ) → w < 2 ^ 64 → eqb (bitOr w h) 0 ≡ eqb (joined h w) 0
+joined-empty h w l = union-empty w h ∙ joined-eqb h w 0 0 l (lit< tt)
 
 -- a member goes into the low word, or into the high one
 pub joined-insert-low : (h w k : ℕ) → w < 2 ^ 64 → k < 64 → joined h (insert w k) ≡ insert (joined h w) k
@@ -86,3 +85,34 @@ joined-insert-high h w k p =
     ap₂ joined (insert-union h k) (sym (or-zero-r w)) ∙ joined-union h w (2 ^ k) 0 p (lit< tt)
     ∙ ap (union (joined h w)) (add-zero (2 ^ k * 2 ^ 64) ∙ sym (pow-add 2 k 64) ∙ ap (λ (x : ℕ). 2 ^ x) (omega arith))
     ∙ sym (insert-union (joined h w) (64 + k))
+
+-- a clash is one in either word, since no pair lies in both
+pub joined-clash : (h w : ℕ) → w < 2 ^ 64 → clash (joined h w) ≡ (clashBelow 32 w || clashBelow 32 h)
+joined-clash h w l =
+    same-test (clash (joined h w)) (clashBelow 32 w || clashBelow 32 h) (λ e. apart (clash-pair 64 (joined h w) e))
+    (λ e. ⊎-elim (λ q. from-low (clash-pair 32 w q)) (λ q. from-high (clash-pair 32 h q)) (or-cases (clashBelow 32 w) (clashBelow 32 h) e))
+  where
+    from-low : Pair 32 w → clash (joined h w) ≡ true
+    from-low (a, p, x, y) =
+        pair-clash 64 (joined h w) a (omega arith) (has-joined-low h w (2 * a) (omega arith) ∙ x)
+        (has-joined-low h w (2 * a + 1) (omega arith) ∙ y)
+
+    up : (k j : ℕ) → k ≡ 64 + j → has (joined h w) k ≡ has h j
+    up k j e = ap (has (joined h w)) e ∙ has-joined-high h w j l
+
+    from-high : Pair 32 h → clash (joined h w) ≡ true
+    from-high (a, p, x, y) =
+        pair-clash 64 (joined h w) (32 + a) (omega arith) (up (2 * (32 + a)) (2 * a) (omega arith) ∙ x)
+        (up (2 * (32 + a) + 1) (2 * a + 1) (omega arith) ∙ y)
+
+    apart : Pair 64 (joined h w) → (clashBelow 32 w || clashBelow 32 h) ≡ true
+    apart (a, p, x, y) = go (native.Mathlib.Decide.decLt a 32)
+      where
+        go : Dec (a < 32) → (clashBelow 32 w || clashBelow 32 h) ≡ true
+        go (yes q) =
+            or-left (clashBelow 32 w) (clashBelow 32 h)
+            (pair-clash 32 w a q (sym (has-joined-low h w (2 * a) (omega arith)) ∙ x) (sym (has-joined-low h w (2 * a + 1) (omega arith)) ∙ y))
+        go (no n) =
+            or-right (clashBelow 32 w) (clashBelow 32 h)
+            (pair-clash 32 h (a - 32) (omega arith) (sym (up (2 * a) (2 * (a - 32)) (omega arith)) ∙ x)
+            (sym (up (2 * a + 1) (2 * (a - 32) + 1) (omega arith)) ∙ y))
