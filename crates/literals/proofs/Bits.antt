@@ -2,14 +2,15 @@
 -- Assumes nothing.
 use mathlib.Core.Path.{_≡_, refl, sym, ap, _∙_}
 use mathlib.Core.Logic.{_⊎_, inl, inr, ⊎-elim}
-use Prim.Native.Nat.{ℕ, zero, suc, _-_, _*_, _/_, _%_, _^_, _<_, _≤_, min, max}
+use Prim.Native.Nat.{ℕ, zero, suc, _+_, _-_, _*_, _/_, _%_, _^_, _<_, _≤_, min, max}
 use native.Mathlib.Nat.{mod-lt, div-one, pow-suc, zero-lt-suc, div-eq-of-lt, lt-of-lt-of-le, mul-assoc}
+use native.Mathlib.Decide.{decLt}
 use native.Mathlib.Numerals.{one-add}
 use native.Mathlib.Omega.{arith}
 use lib.Arith.{bin-ind}
-use lib.Pow.{shr-shr, pow-mono}
+use lib.Pow.{shr-shr, high, pow-mono}
 use lib.Count.{trailingZeros, under}
-use lib.Bits.{bitAnd, bitOr, and-step, or-step, and-shr, or-shr, and-le-l}
+use lib.Bits.{bitAnd, bitOr, and-zero-r, block-half, block-odd, and-step, or-step, and-shr, or-shr, and-le-l}
 use Rattle.literals.specs.Sets.{bit, minus}
 
 pub bit-below : (s k : ℕ) → bit s k < 2
@@ -71,7 +72,7 @@ bit-power-only (suc j) (suc k) e =
 
 -- what a set has in common with one digit
 pub and-power : (s k : ℕ) → bitAnd s (2 ^ k) ≡ bit s k * 2 ^ k
-and-power s zero = omega (arith, and-step s 1, lib.Bits.and-zero-r (s / 2), bit-first s)
+and-power s zero = omega (arith, and-step s 1, and-zero-r (s / 2), bit-first s)
 and-power s (suc k) =
     let half : bitAnd (s / 2) (2 ^ suc k / 2) ≡ bit s (suc k) * 2 ^ k
     = ap (bitAnd (s / 2)) (power-half k) ∙ and-power (s / 2) k ∙ ap (λ (x : ℕ). x * 2 ^ k) (sym (bit-half s k)) in
@@ -81,7 +82,7 @@ and-power s (suc k) =
 -- a number below 2 ^ n has its digits below n, and only such a number has
 pub bit-bound : (s n k : ℕ) → s < 2 ^ n → bit s k ≡ 1 → k < n
 unfolding bit
-bit-bound s n k l e = go (native.Mathlib.Decide.decLt k n)
+bit-bound s n k l e = go (decLt k n)
   where
     go : Dec (k < n) → k < n
     go (yes q) = q
@@ -106,6 +107,19 @@ bits-below (suc n) s h =
   where
     less : (k : ℕ) → suc k < suc n → k < n
     less k l = omega arith
+
+-- a number above n digits of another
+pub bit-low : (h w n k : ℕ) → k < n → bit (h * 2 ^ n + w) k ≡ bit w k
+bit-low h w zero k p = absurd (omega arith)
+bit-low h w (suc n) zero p = bit-first (h * 2 ^ suc n + w) ∙ block-odd h n w ∙ sym (bit-first w)
+bit-low h w (suc n) (suc k) p =
+    bit-half (h * 2 ^ suc n + w) k ∙ ap (λ (x : ℕ). bit x k) (block-half h n w) ∙ bit-low h (w / 2) n k (omega arith)
+    ∙ sym (bit-half w k)
+
+pub bit-high : (h w n k : ℕ) → w < 2 ^ n → bit (h * 2 ^ n + w) (n + k) ≡ bit h k
+unfolding bit
+bit-high h w n k p =
+    ap (λ (x : ℕ). x % 2) (sym (shr-shr (h * 2 ^ n + w) n k) ∙ ap (λ (x : ℕ). x / 2 ^ k) (high h n p))
 
 -- a number is at least each of its digits' powers
 pub bit-le : (s k : ℕ) → bit s k ≡ 1 → 2 ^ k ≤ s

@@ -6,12 +6,13 @@ use Prim.Native.Nat.{ℕ, zero, suc, _+_, _-_, _*_, _/_, _^_, _<_, min, max}
 use native.Mathlib.Nat.{one-mul, zero-mul}
 use native.Mathlib.Omega.{arith}
 use lib.Dec.{eqb}
-use lib.Pow.{pow-lt}
+use lib.Pow.{pow-lt, pow-pos}
 use lib.Bits.{bitAnd, or-add-and, or-lt, and-le-l, and-le-r}
 use borrow.Author.Tests.{eqb-true, eqb-false, eq-eqb, ne-eqb}
 use Rattle.literals.specs.Sets.{bit, has, choose, insert, union, minus}
 use Rattle.literals.proofs.Tests.{same-test, and-intro, and-left, and-right, or-right, or-cases}
-use Rattle.literals.proofs.Bits.{bit-below, bit-cases, bit-half, bit-empty, bit-and, bit-or, bit-minus, bit-power-same, bit-power-only, bit-bound, bits-below, bit-some, bit-ext, and-power}
+use Rattle.literals.proofs.Bits.{bit-below, bit-cases, bit-half, bit-empty, bit-and, bit-or, bit-minus, bit-power-same, bit-power-only}
+use Rattle.literals.proofs.Bits.{bit-bound, bits-below, bit-le, bit-some, bit-ext, and-power}
 
 -- membership and the digit
 pub has-bit : (s k : ℕ) → has s k ≡ true → bit s k ≡ 1
@@ -37,7 +38,8 @@ has-cases s k = ⊎-elim (λ z. inr (bit-lacks s k z)) (λ o. inl (bit-has s k o
 pub has-ext : (a b : ℕ) → ((k : ℕ) → has a k ≡ has b k) → a ≡ b
 has-ext a b h =
     bit-ext a b (λ k.
-    ⊎-elim (λ z. z ∙ sym (lacks-bit b k (sym (h k) ∙ bit-lacks a k z))) (λ o. o ∙ sym (has-bit b k (sym (h k) ∙ bit-has a k o))) (bit-cases a k))
+    ⊎-elim (λ z. z ∙ sym (lacks-bit b k (sym (h k) ∙ bit-lacks a k z)))
+    (λ o. o ∙ sym (has-bit b k (sym (h k) ∙ bit-has a k o))) (bit-cases a k))
 
 -- a set below 2 ^ n has its members below n, and only such a set has
 pub has-bound : (s n k : ℕ) → s < 2 ^ n → has s k ≡ true → k < n
@@ -129,6 +131,12 @@ insert-present s k e = ap (λ (t : Bool). choose t s (s + 2 ^ k)) e
 pub minus-power : (s k : ℕ) → has s k ≡ true → minus s (2 ^ k) ≡ s - 2 ^ k
 minus-power s k e =
     ap (λ (x : ℕ). s - x) (and-power s k ∙ ap (λ (x : ℕ). x * 2 ^ k) (has-bit s k e) ∙ one-mul (2 ^ k))
+
+pub minus-less : (s k : ℕ) → has s k ≡ true → minus s (2 ^ k) < s
+minus-less s k e = omega (arith, minus-power s k e, bit-le s k (has-bit s k e), pow-pos k)
+
+pub has-minus-power : (s j k : ℕ) → has (minus s (2 ^ j)) k ≡ (has s k && not (eqb k j))
+has-minus-power s j k = has-minus s (2 ^ j) k ∙ ap (λ (t : Bool). has s k && not t) (has-power j k)
 
 pub has-insert : (s j k : ℕ) → has (insert s j) k ≡ (has s k || eqb k j)
 has-insert s j k =

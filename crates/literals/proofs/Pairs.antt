@@ -43,6 +43,15 @@ mask-evens : insertAll 0 (evens 32) ≡ mask
 unfolding evens insertAll insert has bit
 mask-evens = refl
 
+even-mask : (a : ℕ) → a < 32 → has mask (2 * a) ≡ true
+even-mask a l = ap (λ (x : ℕ). has x (2 * a)) (sym mask-evens) ∙ has-insertAll 0 (evens 32) (2 * a) (even-in 32 a l)
+
+mask-even : (k : ℕ) → has mask k ≡ true → (a : ℕ) × (a < 32) × (k ≡ 2 * a)
+mask-even k e =
+    ⊎-elim (λ z. absurd (has-not-empty 0 k z refl)) (even-of 32 k)
+    (insertAll-cases 0 (evens 32) k (ap (λ (x : ℕ). has x k) mask-evens ∙ e))
+
+-- digit k of it is set exactly if k is even and the digits k and k + 1 of w are set
 abbrev pub pairs : ℕ → ℕ
 pairs w = bitAnd (bitAnd w (w / 2)) mask
 
@@ -55,7 +64,7 @@ pub pairs-clash : (w : ℕ) → not (eqb (pairs w) 0) ≡ clashBelow 32 w
 pairs-clash w =
     same-test (not (eqb (pairs w) 0)) (clashBelow 32 w)
     (λ e. found (has-some (pairs w) (eqb-false (pairs w) 0 (not-true (eqb (pairs w) 0) e))))
-    (λ e. ap not (seen (clash-pair 32 w e)))
+    (λ e. ap not (ne-eqb (pairs w) 0 (seen (clash-pair 32 w e))))
   where
     at : (k : ℕ) → (has w k && has w (suc k)) ≡ true → (a : ℕ) × (a < 32) × (k ≡ 2 * a) → clashBelow 32 w ≡ true
     at k both (a, l, q) =
@@ -65,15 +74,12 @@ pairs-clash w =
     found : (k : ℕ) × (has (pairs w) k ≡ true) → clashBelow 32 w ≡ true
     found (k, h) =
         let all : ((has w k && has w (suc k)) && has mask k) ≡ true = sym (has-pairs w k) ∙ h in
-        let even : has (insertAll 0 (evens 32)) k ≡ true
-        = ap (λ (x : ℕ). has x k) mask-evens ∙ and-right (has w k && has w (suc k)) (has mask k) all in
         at k (and-left (has w k && has w (suc k)) (has mask k) all)
-        (⊎-elim (λ z. absurd (has-not-empty 0 k z refl)) (even-of 32 k) (insertAll-cases 0 (evens 32) k even))
+        (mask-even k (and-right (has w k && has w (suc k)) (has mask k) all))
 
-    seen : Pair 32 w → eqb (pairs w) 0 ≡ mathlib.Core.Bool.false
+    seen : Pair 32 w → pairs w ≡ 0 → ⊥
     seen (a, l, p, q) =
-        ne-eqb (pairs w) 0 (has-not-empty (pairs w) (2 * a)
+        has-not-empty (pairs w) (2 * a)
         (has-pairs w (2 * a)
         ∙ and-intro (has w (2 * a) && has w (suc (2 * a))) (has mask (2 * a))
-        (and-intro (has w (2 * a)) (has w (suc (2 * a))) p (ap (has w) (sym (add-one (2 * a))) ∙ q))
-        (ap (λ (x : ℕ). has x (2 * a)) (sym mask-evens) ∙ has-insertAll 0 (evens 32) (2 * a) (even-in 32 a l))))
+        (and-intro (has w (2 * a)) (has w (suc (2 * a))) p (ap (has w) (sym (add-one (2 * a))) ∙ q)) (even-mask a l))

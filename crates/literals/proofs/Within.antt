@@ -13,7 +13,7 @@ use borrow.Author.Tests.{eqb-true, eqb-false, eq-eqb, ne-eqb, not-true}
 use Rattle.literals.specs.Sets.{bit, has, insert, union, minus, within, meets}
 use Rattle.literals.proofs.Tests.{and-intro, and-left, and-right, or-left, or-right, or-cases}
 use Rattle.literals.proofs.Bits.{bit-first, bit-half, bit-and, digit-cases}
-use Rattle.literals.proofs.Members.{has-ext, has-some, has-not-empty, has-empty, has-power, has-and, has-union, has-minus, insert-cases, insert-keeps}
+use Rattle.literals.proofs.Members.{has-ext, has-some, has-not-empty, has-empty, has-minus-power, has-and, has-union, has-minus, insert-cases, insert-keeps}
 
 -- a is within b exactly if each member of a is one of b
 pub within-each : (a b : ℕ) → within a b ≡ true → (k : ℕ) → has a k ≡ true → has b k ≡ true
@@ -71,9 +71,9 @@ minus-within a b =
 pub within-without : (a b k : ℕ) → within a b ≡ true → has a k ≡ false → within a (minus b (2 ^ k)) ≡ true
 within-without a b k w n =
     each-within a (minus b (2 ^ k)) (λ j e.
-    has-minus b (2 ^ k) j
-    ∙ and-intro (has b j) (not (has (2 ^ k) j)) (within-each a b w j e)
-    (ap not (has-power k j ∙ ne-eqb j k (λ q. false≢true (sym n ∙ ap (has a) (sym q) ∙ e)))))
+    has-minus-power b k j
+    ∙ and-intro (has b j) (not (eqb j k)) (within-each a b w j e)
+    (ap not (ne-eqb j k (λ q. false≢true (sym n ∙ ap (has a) (sym q) ∙ e)))))
 
 -- a set within another and not that set lacks some member of it
 pub within-lacks : (a b : ℕ) → within a b ≡ true → (a ≡ b → ⊥) → (k : ℕ) × (has b k ≡ true) × (has a k ≡ false)

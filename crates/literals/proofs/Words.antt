@@ -1,35 +1,24 @@
 -- A set held in two words: its digits are those of the words, and each operation goes word by word. Assumes nothing.
 use mathlib.Core.Path.{_≡_, sym, ap, ap₂, _∙_}
-use mathlib.Core.Bool.{true, _&&_, _||_}
+use mathlib.Core.Bool.{true, not, _&&_, _||_}
 use mathlib.Core.Logic.{⊎-elim}
-use Prim.Native.Nat.{ℕ, zero, suc, _+_, _-_, _*_, _/_, _%_, _^_, _<_}
+use Prim.Native.Nat.{ℕ, _+_, _-_, _*_, _%_, _^_, _<_}
 use native.Mathlib.Nat.{one-mul, zero-add, add-zero}
+use native.Mathlib.Decide.{decLt}
 use native.Mathlib.Omega.{arith}
 use lib.Arith.{digits-lt}
-use lib.Bits.{bitAnd, bitOr, and-block, or-block, block-half, block-odd, and-le-l, or-zero-r}
+use lib.Bits.{bitAnd, bitOr, and-block, or-block, and-le-l, and-lt, or-zero-r}
 use lib.Dec.{eqb, lit<}
-use lib.Pow.{shr-shr, high, shl-exact, pow-lt, pow-add}
+use lib.Pow.{shl-exact, pow-lt, pow-add}
 use borrow.Author.Tests.{eqb-true, eq-eqb}
-use Rattle.literals.specs.Sets.{bit, has, insert, union, minus, clashBelow, clash}
+use Rattle.literals.specs.Sets.{has, insert, union, minus, within, meets, clashBelow, clash}
 use Rattle.literals.specs.Words.{joined}
 use Rattle.literals.proofs.Tests.{same-test, and-intro, and-left, and-right, or-left, or-right, or-cases}
-use Rattle.literals.proofs.Bits.{bit-first, bit-half}
+use Rattle.literals.proofs.Bits.{bit-low, bit-high}
 use Rattle.literals.proofs.Members.{union-empty, insert-union}
 use Rattle.literals.proofs.Clashes.{Pair, clash-pair, pair-clash}
 
--- a number of n digits below another
-pub bit-low : (h w n k : ℕ) → k < n → bit (h * 2 ^ n + w) k ≡ bit w k
-bit-low h w zero k p = absurd (omega arith)
-bit-low h w (suc n) zero p = bit-first (h * 2 ^ suc n + w) ∙ block-odd h n w ∙ sym (bit-first w)
-bit-low h w (suc n) (suc k) p =
-    bit-half (h * 2 ^ suc n + w) k ∙ ap (λ (x : ℕ). bit x k) (block-half h n w) ∙ bit-low h (w / 2) n k (omega arith)
-    ∙ sym (bit-half w k)
-
-pub bit-high : (h w n k : ℕ) → w < 2 ^ n → bit (h * 2 ^ n + w) (n + k) ≡ bit h k
-unfolding bit
-bit-high h w n k p =
-    ap (λ (x : ℕ). x % 2) (sym (shr-shr (h * 2 ^ n + w) n k) ∙ ap (λ (x : ℕ). x / 2 ^ k) (high h n p))
-
+-- the digits of the set are those of its words
 pub has-joined-low : (h w k : ℕ) → k < 64 → has (joined h w) k ≡ has w k
 unfolding has
 has-joined-low h w k p = ap (λ (x : ℕ). eqb x 1) (bit-low h w 64 k p)
@@ -59,20 +48,35 @@ module _ (a b c d : ℕ) (hb : b < 2 ^ 64) (hd : d < 2 ^ 64) where
   pub joined-minus : joined (minus a c) (minus b d) ≡ minus (joined a b) (joined c d)
   joined-minus = omega (arith, joined-and, and-le-l a c, and-le-l b d)
 
+  -- both tests on the words, the low one first, are the test on the set
   pub joined-eqb : (eqb b d && eqb a c) ≡ eqb (joined a b) (joined c d)
   joined-eqb =
       same-test (eqb b d && eqb a c) (eqb (joined a b) (joined c d))
       (λ e.
-      eq-eqb (joined a b) (joined c d) (ap₂ joined (eqb-true a c (and-right (eqb b d) (eqb a c) e)) (eqb-true b d (and-left (eqb b d) (eqb a c) e))))
+      let p : a ≡ c = eqb-true a c (and-right (eqb b d) (eqb a c) e) in
+      let q : b ≡ d = eqb-true b d (and-left (eqb b d) (eqb a c) e) in
+      eq-eqb (joined a b) (joined c d) (ap₂ joined p q))
       (λ e.
       let q : joined a b ≡ joined c d = eqb-true (joined a b) (joined c d) e in
-      let r : a ≡ c = omega arith in
-      let s : b ≡ d = omega arith in
-      and-intro (eqb b d) (eqb a c) (eq-eqb b d s) (eq-eqb a c r))
+      and-intro (eqb b d) (eqb a c) (eq-eqb b d (omega arith)) (eq-eqb a c (omega arith)))
 
 -- two words hold the empty set exactly if both are 0
 pub joined-empty : (h w : ℕ) → w < 2 ^ 64 → eqb (bitOr w h) 0 ≡ eqb (joined h w) 0
 joined-empty h w l = union-empty w h ∙ joined-eqb h w 0 0 l (lit< tt)
+
+module _ (a b c d : ℕ) (hb : b < 2 ^ 64) (hd : d < 2 ^ 64) where
+  low-and : bitAnd b d < 2 ^ 64
+  low-and = and-lt 64 b d hb hd
+
+  pub joined-within : (within b d && within a c) ≡ within (joined a b) (joined c d)
+  joined-within =
+      joined-eqb (bitAnd a c) (bitAnd b d) a b low-and hb
+      ∙ ap (λ (x : ℕ). eqb x (joined a b)) (joined-and a b c d hb hd)
+
+  pub joined-meets : not (eqb (bitOr (bitAnd b d) (bitAnd a c)) 0) ≡ meets (joined a b) (joined c d)
+  joined-meets =
+      ap not (joined-empty (bitAnd a c) (bitAnd b d) low-and)
+      ∙ ap (λ (x : ℕ). not (eqb x 0)) (joined-and a b c d hb hd)
 
 -- a member goes into the low word, or into the high one
 pub joined-insert-low : (h w k : ℕ) → w < 2 ^ 64 → k < 64 → joined h (insert w k) ≡ insert (joined h w) k
@@ -86,33 +90,37 @@ joined-insert-high h w k p =
     ∙ ap (union (joined h w)) (add-zero (2 ^ k * 2 ^ 64) ∙ sym (pow-add 2 k 64) ∙ ap (λ (x : ℕ). 2 ^ x) (omega arith))
     ∙ sym (insert-union (joined h w) (64 + k))
 
--- a clash is one in either word, since no pair lies in both
-pub joined-clash : (h w : ℕ) → w < 2 ^ 64 → clash (joined h w) ≡ (clashBelow 32 w || clashBelow 32 h)
-joined-clash h w l =
-    same-test (clash (joined h w)) (clashBelow 32 w || clashBelow 32 h) (λ e. apart (clash-pair 64 (joined h w) e))
-    (λ e. ⊎-elim (λ q. from-low (clash-pair 32 w q)) (λ q. from-high (clash-pair 32 h q)) (or-cases (clashBelow 32 w) (clashBelow 32 h) e))
-  where
-    from-low : Pair 32 w → clash (joined h w) ≡ true
-    from-low (a, p, x, y) =
-        pair-clash 64 (joined h w) a (omega arith) (has-joined-low h w (2 * a) (omega arith) ∙ x)
-        (has-joined-low h w (2 * a + 1) (omega arith) ∙ y)
+-- a clash is one in either word, since no pair lies across the two
+module _ (h w : ℕ) (l : w < 2 ^ 64) where
+  at-high : (k j : ℕ) → k ≡ 64 + j → has (joined h w) k ≡ has h j
+  at-high k j e = ap (has (joined h w)) e ∙ has-joined-high h w j l
 
-    up : (k j : ℕ) → k ≡ 64 + j → has (joined h w) k ≡ has h j
-    up k j e = ap (has (joined h w)) e ∙ has-joined-high h w j l
+  clash-of-low : Pair 32 w → clash (joined h w) ≡ true
+  clash-of-low (a, p, x, y) =
+      pair-clash 64 (joined h w) a (omega arith) (has-joined-low h w (2 * a) (omega arith) ∙ x)
+      (has-joined-low h w (2 * a + 1) (omega arith) ∙ y)
 
-    from-high : Pair 32 h → clash (joined h w) ≡ true
-    from-high (a, p, x, y) =
-        pair-clash 64 (joined h w) (32 + a) (omega arith) (up (2 * (32 + a)) (2 * a) (omega arith) ∙ x)
-        (up (2 * (32 + a) + 1) (2 * a + 1) (omega arith) ∙ y)
+  clash-of-high : Pair 32 h → clash (joined h w) ≡ true
+  clash-of-high (a, p, x, y) =
+      pair-clash 64 (joined h w) (32 + a) (omega arith) (at-high (2 * (32 + a)) (2 * a) (omega arith) ∙ x)
+      (at-high (2 * (32 + a) + 1) (2 * a + 1) (omega arith) ∙ y)
 
-    apart : Pair 64 (joined h w) → (clashBelow 32 w || clashBelow 32 h) ≡ true
-    apart (a, p, x, y) = go (native.Mathlib.Decide.decLt a 32)
-      where
-        go : Dec (a < 32) → (clashBelow 32 w || clashBelow 32 h) ≡ true
-        go (yes q) =
-            or-left (clashBelow 32 w) (clashBelow 32 h)
-            (pair-clash 32 w a q (sym (has-joined-low h w (2 * a) (omega arith)) ∙ x) (sym (has-joined-low h w (2 * a + 1) (omega arith)) ∙ y))
-        go (no n) =
-            or-right (clashBelow 32 w) (clashBelow 32 h)
-            (pair-clash 32 h (a - 32) (omega arith) (sym (up (2 * a) (2 * (a - 32)) (omega arith)) ∙ x)
-            (sym (up (2 * a + 1) (2 * (a - 32) + 1) (omega arith)) ∙ y))
+  word-of-clash : Pair 64 (joined h w) → (clashBelow 32 w || clashBelow 32 h) ≡ true
+  word-of-clash (a, p, x, y) = go (decLt a 32)
+    where
+      go : Dec (a < 32) → (clashBelow 32 w || clashBelow 32 h) ≡ true
+      go (yes q) =
+          or-left (clashBelow 32 w) (clashBelow 32 h)
+          (pair-clash 32 w a q (sym (has-joined-low h w (2 * a) (omega arith)) ∙ x)
+          (sym (has-joined-low h w (2 * a + 1) (omega arith)) ∙ y))
+      go (no n) =
+          or-right (clashBelow 32 w) (clashBelow 32 h)
+          (pair-clash 32 h (a - 32) (omega arith) (sym (at-high (2 * a) (2 * (a - 32)) (omega arith)) ∙ x)
+          (sym (at-high (2 * a + 1) (2 * (a - 32) + 1) (omega arith)) ∙ y))
+
+  pub joined-clash : clash (joined h w) ≡ (clashBelow 32 w || clashBelow 32 h)
+  joined-clash =
+      same-test (clash (joined h w)) (clashBelow 32 w || clashBelow 32 h) (λ e. word-of-clash (clash-pair 64 (joined h w) e))
+      (λ e.
+      ⊎-elim (λ q. clash-of-low (clash-pair 32 w q)) (λ q. clash-of-high (clash-pair 32 h q))
+      (or-cases (clashBelow 32 w) (clashBelow 32 h) e))

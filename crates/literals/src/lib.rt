@@ -4,7 +4,8 @@ ghost use mathlib.Core.Path.{_≡_};
 ghost use Prim.Native.Nat.{_<_};
 ghost use lib.Dec.{eqb};
 ghost use lib.Count.{ones};
-ghost use Rattle.literals.specs.Sets.{has as «hasOf», insert as «insertOf», union as «unionOf», minus as «minusOf», within as «withinOf», meets as «meetsOf», clash};
+ghost use Rattle.literals.specs.Sets.{has as «hasOf», insert as «insertOf», union as «unionOf»};
+ghost use Rattle.literals.specs.Sets.{minus as «minusOf», within as «withinOf», meets as «meetsOf», clash};
 ghost use Rattle.literals.specs.Words.{setOf};
 
 pub mod masks;
@@ -91,14 +92,14 @@ impl LiteralSet {
     pub fn meets(self, other: LiteralSet) -> bool
         ensures { λ r. ⌜ r ≡ meetsOf (setOf self) (setOf other) ⌝ }
     {
-        (self.lo & other.lo) | (self.hi & other.hi) != 0
+        ((self.lo & other.lo) | (self.hi & other.hi)) != 0
     }
 
     // No literal is a member.
     pub fn is_empty(self) -> bool
         ensures { λ r. ⌜ r ≡ eqb (setOf self) 0 ⌝ }
     {
-        self.lo | self.hi == 0
+        (self.lo | self.hi) == 0
     }
 
     // How many members there are.
@@ -115,6 +116,6 @@ impl LiteralSet {
     {
         let lo = self.lo & (self.lo >> 1) & 0x5555_5555_5555_5555;
         let hi = self.hi & (self.hi >> 1) & 0x5555_5555_5555_5555;
-        lo | hi != 0
+        (lo | hi) != 0
     }
 }
