@@ -1,0 +1,3 @@
+-- What a program is, and the table of words that the engine works on.
+pub mod Program
+pub mod Table
