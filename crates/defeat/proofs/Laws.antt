@@ -1,13 +1,14 @@
 -- What the theorems ask of a frame. Nothing is asked of preference but that it can be decided: no order, not even that
 -- two arguments are never preferred over each other. Assumes nothing.
 use mathlib.Core.List.{List, [], _∷_, List·Memᴰ}
+use Rattle.lists.specs.Lists.{Within}
 use Rattle.defeat.specs.Frame.{Frame}
 use Rattle.defeat.specs.Defeat.{ProperDefeater}
 
 module _ {A : Type 0} (F : Frame A) where
   pub record Laws : Type 0 where
     -- fewer arguments stay concordant
-    pub concordant-fewer : (l m : List A) → ((x : A) → List·Memᴰ x l → List·Memᴰ x m) → F .Concordant m → F .Concordant l
+    pub concordant-fewer : (l m : List A) → Within l m → F .Concordant m → F .Concordant l
     -- an argument alone is concordant
     pub concordant-one : (x : A) → F .Argument x → F .Concordant (x ∷ [])
     -- an argument is a sub-argument of itself

@@ -1,12 +1,12 @@
 -- Tests that decide statements: by connective, then by list function. Assumes nothing.
-use mathlib.Core.Path.{_≡_, refl, sym}
+use mathlib.Core.Path.{_≡_}
 use mathlib.Core.Bool.{Bool, true, false, not, _&&_, _||_}
 use mathlib.Core.List.{List, List·Memᴰ}
 use mathlib.Core.Logic.{_⊎_, inl, inr}
 use lib.Dec.{T, T-not, not-T}
 use Rattle.lists.specs.Decides.{Decides}
-use Rattle.lists.specs.Lists.{any, all, filter}
-use Rattle.lists.proofs.Lists.{and-intro, and-both, or-left, or-right, or-either, any-intro, any-found, all-intro, all-at, filter-intro, filter-found, T-same}
+use Rattle.lists.specs.Lists.{any, all}
+use Rattle.lists.proofs.Lists.{and-intro, and-both, or-left, or-right, or-either, any-intro, any-found, all-intro, all-at, T-known, T-same}
 
 module _ {P : Type 0} where
   -- what a test decides is so or not so
@@ -52,6 +52,21 @@ module _ {P Q : Type 0} {a b : Bool} (d : Decides a P) (e : Decides b Q) where
       from : P ⊎ Q → T (a || b)
       from (inl p) = or-left a b (d .passes p)
       from (inr q) = or-right a b (e .passes q)
+
+  -- "if the first, then the second"
+  pub decides-imp : Decides (not a || b) (P → Q)
+  decides-imp = record {
+    says = λ h. to (or-either (not a) b h);
+    passes = λ f. from f (T-known a);
+  }
+    where
+      to : T (not a) ⊎ T b → P → Q
+      to (inl h) p = absurd (T-not a h (d .passes p))
+      to (inr h) p = e .says h
+
+      from : (P → Q) → T a ⊎ (T a → ⊥) → T (not a || b)
+      from f (inl h) = or-right (not a) b (e .passes (f (d .says h)))
+      from f (inr n) = or-left (not a) b (not-T a n)
 
 module _ {A : Type 0} (P : A → Type 0) (test : A → Bool) (l : List A) (d : (x : A) → List·Memᴰ x l → Decides (test x) (P x)) where
   pub decides-any : Decides (any test l) ((x : A) × List·Memᴰ x l × P x)

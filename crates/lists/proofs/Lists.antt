@@ -7,7 +7,7 @@ use Prim.Native.Nat.{ℕ, zero, suc, _+_, _≤_, _<_}
 use native.Mathlib.Omega.{arith}
 use lib.ListN.{length}
 use lib.Dec.{T, not-T, eqb, eqb→eq, eqb-refl, ltb, ltb→lt, nltb→le}
-use Rattle.lists.specs.Lists.{keep, any, all, filter, member, upto}
+use Rattle.lists.specs.Lists.{Within, keep, any, all, filter, member, upto}
 
 -- ---- tests
 
@@ -50,6 +50,16 @@ T-same true true f g = refl
 T-same true false f g = absurd (f tt)
 T-same false true f g = absurd (g tt)
 T-same false false f g = refl
+
+-- ---- lists within lists
+
+module _ {A : Type 0} where
+  pub within-nil : (m : List A) → Within [] m
+  within-nil m x i = absurd (List·Memᴰ·not-nil i)
+
+  pub within-cons : {l m : List A} (y : A) → Within l m → Within (y ∷ l) (y ∷ m)
+  within-cons y w x (List·Memᴰ·head e) = List·Memᴰ·head e
+  within-cons y w x (List·Memᴰ·tail i) = List·Memᴰ·tail (w x i)
 
 -- ---- any, all, filter
 

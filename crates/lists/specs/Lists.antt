@@ -1,11 +1,15 @@
 -- The functions on lists that the computed definitions use. In `any` and `all` the rest is bound by a `let`, which
 -- waits: the first element that decides ends the test.
 use mathlib.Core.Bool.{Bool, true, false, _&&_, _||_}
-use mathlib.Core.List.{List, [], _∷_}
+use mathlib.Core.List.{List, [], _∷_, List·Memᴰ}
 use Prim.Native.Nat.{ℕ, zero, suc}
 use lib.Dec.{eqb}
 
 module _ {A : Type 0} where
+  -- every element of l is one of m
+  abbrev pub Within : List A → List A → Type 0
+  Within l m = (x : A) → List·Memᴰ x l → List·Memᴰ x m
+
   -- l, with x before it if the test passed
   abbrev pub keep : Bool → A → List A → List A
   keep true x l = x ∷ l

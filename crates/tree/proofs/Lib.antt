@@ -1,0 +1,4 @@
+-- Theorems on lines, trees and marks.
+pub mod Line
+pub mod Reply
+pub mod Forest
