@@ -2,3 +2,5 @@
 pub mod Line
 pub mod Reply
 pub mod Forest
+pub mod Marks
+pub mod Exclusion
