@@ -41,6 +41,14 @@ module _ {A : Type 0} (test : A → ℕ) where
       go zero e r = r
       go (suc k) e r = let s = e (λ z. omega arith) in cc
 
+  -- the same at a position of the candidates' list, for a loop over them
+  module _ (below : A → Forest A) (l : List A) (i : ℕ) (d : A) (h : i < length l) where
+    pub from-skip-at : test (getD l i d) ≡ 0 → from test below (drop i l) ≡ from test below (drop (suc i) l)
+    from-skip-at e = ap (from test below) (drop-cons l i d h) ∙ from-skip below (getD l i d) (drop (suc i) l) e
+
+    pub from-take-at : test (getD l i d) ≢ 0 → from test below (drop i l) ≡ tree (getD l i d) (test (getD l i d)) (below (getD l i d)) (from test below (drop (suc i) l))
+    from-take-at n = ap (from test below) (drop-cons l i d h) ∙ from-take below (getD l i d) (drop (suc i) l) n
+
 -- ---- their marks: all D exactly if every child is D, not all D exactly if some child is U
 
 not-and : (a b : Bool) → not (not a && b) ≡ a || not b

@@ -2,5 +2,6 @@
 pub mod Line
 pub mod Reply
 pub mod Forest
+pub mod Entries
 pub mod Marks
 pub mod Exclusion
