@@ -2,13 +2,11 @@
 -- nothing.
 use mathlib.Core.Path.{_≡_, refl}
 use mathlib.Core.Bool.{Bool, true, false, not, _&&_}
-use mathlib.Core.List.{List, List·Memᴰ}
+use mathlib.Core.List.{List·Memᴰ}
 use mathlib.Core.Logic.{_⊎_, inl, inr, _↔_, _≢_}
-use Prim.Native.Nat.{ℕ}
 use native.Mathlib.Omega.{arith}
 use lib.Dec.{T}
 use Rattle.lists.specs.Decides.{Decides}
-use Rattle.lists.specs.Lists.{any, filter}
 use Rattle.lists.proofs.Lists.{filter-intro, filter-found}
 use Rattle.lists.proofs.Decides.{decides-known, decides-not, decides-iff, decides-and, decides-any}
 use Rattle.defeat.specs.Frame.{Frame}

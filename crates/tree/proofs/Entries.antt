@@ -7,7 +7,7 @@ use native.Mathlib.Nat.{add-zero, add-suc, suc-add, add-assoc}
 use lib.ListN.{length, length-append}
 use Rattle.defeat.specs.Tests.{Tests}
 use Rattle.tree.specs.Forest.{Forest, none, tree, size, replies, forestOf}
-use Rattle.tree.specs.Entries.{Entry, entryOf, preorder, entries}
+use Rattle.tree.specs.Entries.{Entry, preorder, entries}
 
 module _ {A : Type 0} (place : A → ℕ) where
   pub preorder-length : (at parent : ℕ) (f : Forest A) → length (preorder place at parent f) ≡ size f

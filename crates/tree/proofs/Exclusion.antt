@@ -2,7 +2,7 @@
 -- Say a defeats b. Every line below b that a answers first, b and then `a, x2, .., xk`, is compared with its part from a
 -- on. A reply of b's side to the longer line is one to the shorter. A reply of a's side to the shorter is one to the
 -- longer. So the marks of a's tree carry over: a is U below b, and b is D. Assumes nothing.
-use mathlib.Core.Path.{_≡_, refl, ap, sym, subst}
+use mathlib.Core.Path.{_≡_, refl, ap}
 use mathlib.Core.List.{List, [], _∷_, _++_, List·Memᴰ, List·Memᴰ·head, List·Memᴰ·tail, List·Memᴰ·not-nil, Memᴰ·append-left, List·Memᴰ·append-cases, List·Memᴰ·eq-of-singleton}
 use mathlib.Core.Logic.{_⊎_, inl, inr}
 use Prim.Native.Nat.{ℕ}
@@ -10,7 +10,7 @@ use native.Mathlib.Omega.{arith}
 use Rattle.lists.specs.Lists.{Within}
 use Rattle.lists.proofs.Lists.{within-nil, within-cons}
 use Rattle.defeat.specs.Frame.{Frame}
-use Rattle.defeat.specs.Defeat.{AttacksAt, ProperDefeater, BlockingDefeater, Defeater}
+use Rattle.defeat.specs.Defeat.{Defeater}
 use Rattle.defeat.proofs.Laws.{Laws}
 use Rattle.defeat.proofs.Defeat.{defeater-attacks, defeater-either}
 use Rattle.tree.specs.Line.{Line, root, reply, NoneWithinEarlier, ProperAfterBlocking, AcceptableLine}

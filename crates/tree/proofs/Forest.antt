@@ -1,20 +1,19 @@
 -- The tree that grows from a line: each reply leaves fewer arguments, so its depth does not matter. Assumes nothing.
-use mathlib.Core.Path.{_≡_, refl, ap, sym, _∙_}
+use mathlib.Core.Path.{_≡_, refl, ap, _∙_}
 use mathlib.Core.Bool.{Bool, true, false, not, _&&_, _||_}
 use mathlib.Core.List.{List, [], _∷_, List·Memᴰ, List·Memᴰ·head, List·Memᴰ·tail, List·Memᴰ·not-nil, List·Memᴰ·cases-cons}
 use mathlib.Core.Logic.{_⊎_, inl, inr, ⊎-elim, _≢_}
-use Prim.Native.Nat.{ℕ, zero, suc, _+_, _≤_, _<_}
+use Prim.Native.Nat.{ℕ, zero, suc, _<_}
 use native.Mathlib.Omega.{arith}
 use lib.ListN.{length, getD, drop}
 use lib.Seq.{drop-cons}
-use lib.Dec.{T, T-not, eqb}
+use lib.Dec.{T, T-not}
 use Rattle.lists.specs.Decides.{Decides}
-use Rattle.lists.specs.Lists.{all, filter}
 use Rattle.lists.proofs.Lists.{and-both, filter-lt}
-use Rattle.lists.proofs.Decides.{decides-iff, decides-and, decides-or, decides-not}
+use Rattle.lists.proofs.Decides.{decides-iff, decides-and, decides-or}
 use Rattle.defeat.specs.Tests.{Tests}
 use Rattle.tree.specs.Reply.{unused, replyKind}
-use Rattle.tree.specs.Forest.{Forest, none, tree, size, allDefeated, pick, from, repliesTo, remaining, replies, forestOf}
+use Rattle.tree.specs.Forest.{Forest, tree, allDefeated, pick, from, repliesTo, remaining, replies}
 use Rattle.tree.proofs.Reply.{reply-unused}
 
 -- ---- trees of the candidates that pass

@@ -1,13 +1,13 @@
 -- Lines: the sides are the even and the odd positions, and what an acceptable line gives. Assumes nothing.
 use mathlib.Core.Path.{_≡_, refl, sym, subst, ap, _∙_}
-use mathlib.Core.List.{List, [], _∷_, List·Memᴰ, List·Memᴰ·head, List·Memᴰ·tail, List·Memᴰ·not-nil}
+use mathlib.Core.List.{List, [], _∷_, List·Memᴰ·head, List·Memᴰ·tail, List·Memᴰ·not-nil}
 use mathlib.Core.Logic.{_⊎_, inl, inr}
-use Prim.Native.Nat.{ℕ, zero, suc}
+use Prim.Native.Nat.{suc}
 use lib.ListN.{length}
 use Rattle.lists.specs.Lists.{Within}
 use Rattle.lists.proofs.Lists.{within-nil, within-cons}
 use Rattle.defeat.specs.Frame.{Frame}
-use Rattle.defeat.specs.Defeat.{ProperDefeater, BlockingDefeater, Defeater}
+use Rattle.defeat.specs.Defeat.{Defeater}
 use Rattle.defeat.proofs.Laws.{Laws}
 use Rattle.defeat.proofs.Renders.{Arguments}
 use Rattle.tree.specs.Line.{ifEven, atEven, atOdd, Line, root, reply, NoneWithinEarlier, ProperAfterBlocking, AcceptableLine}

@@ -1,5 +1,5 @@
 -- Every acceptable line has one mark, and it is the computed one. Assumes nothing.
-use mathlib.Core.Path.{_≡_, refl, sym, subst}
+use mathlib.Core.Path.{_≡_, refl}
 use mathlib.Core.Bool.{Bool, true, false, not}
 use mathlib.Core.List.{List, [], _∷_, List·Memᴰ}
 use mathlib.Core.Logic.{_⊎_, inl, inr, _↔_, _≢_}
@@ -16,7 +16,7 @@ use Rattle.defeat.proofs.Renders.{Renders}
 use Rattle.tree.specs.Line.{AcceptableLine}
 use Rattle.tree.specs.Marks.{Mark, U, D, Child, Marked, undefeated, defeated, UndefeatedRoot}
 use Rattle.tree.specs.Reply.{replyKind}
-use Rattle.tree.specs.Forest.{allDefeated, markOf, from, repliesTo, remaining, replies, undefeatedRoot}
+use Rattle.tree.specs.Forest.{allDefeated, markOf, repliesTo, remaining, replies, undefeatedRoot}
 use Rattle.tree.proofs.Line.{line-last, acceptable-one}
 use Rattle.tree.proofs.Reply.{reply-child}
 use Rattle.tree.proofs.Forest.{from-every, from-some, remaining-falls}

@@ -1,24 +1,23 @@
 -- The test of one more argument is the definition of a child: what was acceptable stays so exactly if the new argument
 -- passes. Assumes nothing.
 use mathlib.Core.Path.{_≡_, refl, sym, subst, _∙_}
-use mathlib.Core.Bool.{Bool, true, false, not, _&&_, _||_}
+use mathlib.Core.Bool.{Bool, true, false, not, _&&_}
 use mathlib.Core.List.{List, [], _∷_, List·Memᴰ, List·Memᴰ·head, List·Memᴰ·tail}
-use mathlib.Core.Logic.{_⊎_, inl, inr, _↔_, _≢_}
+use mathlib.Core.Logic.{_↔_, _≢_}
 use Prim.Native.Nat.{ℕ, zero, suc}
 use native.Mathlib.Omega.{arith}
 use lib.Dec.{T}
 use Rattle.lists.specs.Decides.{Decides}
-use Rattle.lists.specs.Lists.{all}
 use Rattle.lists.proofs.Lists.{and-both}
 use Rattle.lists.proofs.Decides.{decides-not, decides-iff, decides-and, decides-imp, decides-all}
 use Rattle.defeat.specs.Frame.{Frame}
 use Rattle.defeat.specs.Defeat.{ProperDefeater, BlockingDefeater, Defeater}
-use Rattle.defeat.specs.Tests.{Tests, proper, blocking, kind}
+use Rattle.defeat.specs.Tests.{Tests, kind}
 use Rattle.defeat.proofs.Renders.{Renders, Arguments}
 use Rattle.defeat.proofs.Defeat.{proper-renders, blocking-renders, kind-proper, kind-blocking, kind-defeater}
-use Rattle.tree.specs.Line.{Line, root, reply, ProperAfterBlocking, AcceptableLine}
+use Rattle.tree.specs.Line.{reply, ProperAfterBlocking, AcceptableLine}
 use Rattle.tree.specs.Marks.{Child}
-use Rattle.tree.specs.Reply.{mine, theirs, permit, unused, mayFollow, joins, replyKind}
+use Rattle.tree.specs.Reply.{theirs, permit, unused, mayFollow, joins, replyKind}
 use Rattle.tree.proofs.Line.{sides-within, line-arguments, line-last, acceptable-mine, acceptable-by-sides}
 
 -- ---- what the third condition of a line asks of one more argument
