@@ -68,7 +68,9 @@ module _ {P Q : Type 0} {a b : Bool} (d : Decides a P) (e : Decides b Q) where
       from f (inl h) = or-right (not a) b (e .passes (f (d .says h)))
       from f (inr n) = or-left (not a) b (not-T a n)
 
-module _ {A : Type 0} (P : A → Type 0) (test : A → Bool) (l : List A) (d : (x : A) → List·Memᴰ x l → Decides (test x) (P x)) where
+-- each element's test decides a statement of it
+module _ {A : Type 0} (P : A → Type 0) (test : A → Bool) (l : List A)
+    (d : (x : A) → List·Memᴰ x l → Decides (test x) (P x)) where
   pub decides-any : Decides (any test l) ((x : A) × List·Memᴰ x l × P x)
   decides-any = record {
     says = λ h. let r = any-found test l h in (r .0, r .1, d (r .0) (r .1) .says (r .2));

@@ -82,31 +82,39 @@ module _ {A : Type 0} where
     any-intro (x ∷ l) (List·Memᴰ·head e) h = or-left (test x) (any test l) (subst (λ y. T (test y)) e h)
     any-intro (x ∷ l) (List·Memᴰ·tail i) h = or-right (test x) (any test l) (any-intro l i h)
 
-    pub any-found : (l : List A) → T (any test l) → (x : A) × List·Memᴰ x l × T (test x)
+    -- an element of the list that passes
+    abbrev pub Found : List A → Type 0
+    Found l = (x : A) × List·Memᴰ x l × T (test x)
+
+    pub any-found : (l : List A) → T (any test l) → Found l
     any-found [] h = absurd h
     any-found (x ∷ l) h = go (any-found l) (or-either (test x) (any test l) h)
       where
-        go : (T (any test l) → (y : A) × List·Memᴰ y l × T (test y)) → T (test x) ⊎ T (any test l) → (y : A) × List·Memᴰ y (x ∷ l) × T (test y)
+        go : (T (any test l) → Found l) → T (test x) ⊎ T (any test l) → Found (x ∷ l)
         go rest (inl k) = (x, List·Memᴰ·head refl, k)
         go rest (inr k) = let r = rest k in (r .0, List·Memᴰ·tail (r .1), r .2)
 
     pub all-intro : (l : List A) → ((x : A) → List·Memᴰ x l → T (test x)) → T (all test l)
     all-intro [] f = tt
-    all-intro (x ∷ l) f = and-intro (test x) (all test l) (f x (List·Memᴰ·head refl)) (all-intro l (λ y i. f y (List·Memᴰ·tail i)))
+    all-intro (x ∷ l) f =
+        and-intro (test x) (all test l) (f x (List·Memᴰ·head refl)) (all-intro l (λ y i. f y (List·Memᴰ·tail i)))
 
     pub all-at : {x : A} (l : List A) → T (all test l) → List·Memᴰ x l → T (test x)
     all-at (y ∷ l) h (List·Memᴰ·head e) = subst (λ z. T (test z)) (sym e) (and-both (test y) (all test l) h .0)
     all-at (y ∷ l) h (List·Memᴰ·tail i) = all-at l (and-both (test y) (all test l) h .1) i
 
     pub filter-intro : {x : A} (l : List A) → List·Memᴰ x l → T (test x) → List·Memᴰ x (filter test l)
-    filter-intro (y ∷ l) (List·Memᴰ·head e) h = Memᴰ·cast e (keep-head (test y) y (filter test l) (subst (λ z. T (test z)) e h))
+    filter-intro (y ∷ l) (List·Memᴰ·head e) h =
+        Memᴰ·cast e (keep-head (test y) y (filter test l) (subst (λ z. T (test z)) e h))
     filter-intro (y ∷ l) (List·Memᴰ·tail i) h = keep-tail (test y) y (filter-intro l i h)
 
     pub filter-found : {x : A} (l : List A) → List·Memᴰ x (filter test l) → List·Memᴰ x l × T (test x)
     filter-found [] i = absurd (List·Memᴰ·not-nil i)
     filter-found {x} (y ∷ l) i = go (filter-found l) (keep-cases (test y) y x (filter test l) i)
       where
-        go : (List·Memᴰ x (filter test l) → List·Memᴰ x l × T (test x)) → ((x ≡ y) × T (test y)) ⊎ List·Memᴰ x (filter test l) → List·Memᴰ x (y ∷ l) × T (test x)
+        go : (List·Memᴰ x (filter test l) → List·Memᴰ x l × T (test x))
+            → ((x ≡ y) × T (test y)) ⊎ List·Memᴰ x (filter test l)
+            → List·Memᴰ x (y ∷ l) × T (test x)
         go rest (inl k) = (List·Memᴰ·head (k .0), subst (λ z. T (test z)) (sym (k .0)) (k .1))
         go rest (inr k) = (List·Memᴰ·tail (rest k .0), rest k .1)
 
@@ -123,39 +131,46 @@ module _ {A : Type 0} where
   any-filter test kept [] = refl
   any-filter test kept (x ∷ l) = go (kept x) (any-filter test kept l)
     where
-      go : (b : Bool) → any test (filter kept l) ≡ any (λ y. kept y && test y) l → any test (keep b x (filter kept l)) ≡ (b && test x) || any (λ y. kept y && test y) l
+      both : A → Bool
+      both y = kept y && test y
+
+      go : (b : Bool) → any test (filter kept l) ≡ any both l → any test (keep b x (filter kept l)) ≡ (b && test x) || any both l
       go true e = ap (λ r. test x || r) e
       go false e = e
 
 -- ---- a stricter test keeps fewer elements, and one fewer where it refuses one that the other keeps
 
-module _ {A : Type 0} (strict wide : A → Bool) (within : (x : A) → T (strict x) → T (wide x)) where
-  keep-le : (a b : Bool) (x : A) (l m : List A) → (T a → T b) → length l ≤ length m → length (keep a x l) ≤ length (keep b x m)
-  keep-le true true x l m f h = omega arith
-  keep-le true false x l m f h = absurd (f tt)
-  keep-le false true x l m f h = omega arith
-  keep-le false false x l m f h = h
+-- two lists, each with or without one more element
+module _ {A : Type 0} (x : A) (l m : List A) where
+  keep-le : (a b : Bool) → (T a → T b) → length l ≤ length m → length (keep a x l) ≤ length (keep b x m)
+  keep-le true true f h = omega arith
+  keep-le true false f h = absurd (f tt)
+  keep-le false true f h = omega arith
+  keep-le false false f h = h
 
+  keep-lt : (a b : Bool) → (T a → T b) → length l < length m → length (keep a x l) < length (keep b x m)
+  keep-lt true true f h = omega arith
+  keep-lt true false f h = absurd (f tt)
+  keep-lt false true f h = omega arith
+  keep-lt false false f h = h
+
+  keep-new : (a b : Bool) → (T a → ⊥) → T b → length l ≤ length m → length (keep a x l) < length (keep b x m)
+  keep-new true b f g h = absurd (f tt)
+  keep-new false true f g h = omega arith
+  keep-new false false f g h = absurd g
+
+module _ {A : Type 0} (strict wide : A → Bool) (within : (x : A) → T (strict x) → T (wide x)) where
   pub filter-le : (l : List A) → length (filter strict l) ≤ length (filter wide l)
   filter-le [] = omega arith
-  filter-le (x ∷ l) = keep-le (strict x) (wide x) x (filter strict l) (filter wide l) (within x) (filter-le l)
+  filter-le (x ∷ l) = keep-le x (filter strict l) (filter wide l) (strict x) (wide x) (within x) (filter-le l)
 
-  keep-lt : (a b : Bool) (x : A) (l m : List A) → (T a → T b) → length l < length m → length (keep a x l) < length (keep b x m)
-  keep-lt true true x l m f h = omega arith
-  keep-lt true false x l m f h = absurd (f tt)
-  keep-lt false true x l m f h = omega arith
-  keep-lt false false x l m f h = h
-
-  keep-new : (a b : Bool) (x : A) (l m : List A) → (T a → ⊥) → T b → length l ≤ length m → length (keep a x l) < length (keep b x m)
-  keep-new true b x l m f g h = absurd (f tt)
-  keep-new false true x l m f g h = omega arith
-  keep-new false false x l m f g h = absurd g
-
-  pub filter-lt : {y : A} (l : List A) → List·Memᴰ y l → T (wide y) → (T (strict y) → ⊥) → length (filter strict l) < length (filter wide l)
+  pub filter-lt : {y : A} (l : List A) → List·Memᴰ y l → T (wide y) → (T (strict y) → ⊥)
+      → length (filter strict l) < length (filter wide l)
   filter-lt (x ∷ l) (List·Memᴰ·head e) h n =
-      keep-new (strict x) (wide x) x (filter strict l) (filter wide l) (λ k. n (subst (λ z. T (strict z)) (sym e) k)) (subst (λ z. T (wide z)) e h) (filter-le l)
+      let refused : T (strict x) → ⊥ = λ k. n (subst (λ z. T (strict z)) (sym e) k) in
+      keep-new x (filter strict l) (filter wide l) (strict x) (wide x) refused (subst (λ z. T (wide z)) e h) (filter-le l)
   filter-lt (x ∷ l) (List·Memᴰ·tail i) h n =
-      keep-lt (strict x) (wide x) x (filter strict l) (filter wide l) (within x) (filter-lt l i h n)
+      keep-lt x (filter strict l) (filter wide l) (strict x) (wide x) (within x) (filter-lt l i h n)
 
 -- ---- map
 
@@ -181,7 +196,9 @@ pub upto-intro : (first count n : ℕ) → first ≤ n → n < first + count →
 upto-intro first zero n h k = absurd (omega arith)
 upto-intro first (suc count) n h k = go (λ l. upto-intro (suc first) count n l (omega arith)) (T-known (ltb first n))
   where
-    go : (suc first ≤ n → List·Memᴰ n (upto (suc first) count)) → T (ltb first n) ⊎ (T (ltb first n) → ⊥) → List·Memᴰ n (upto first (suc count))
+    go : (suc first ≤ n → List·Memᴰ n (upto (suc first) count))
+        → T (ltb first n) ⊎ (T (ltb first n) → ⊥)
+        → List·Memᴰ n (upto first (suc count))
     go rest (inl l) = List·Memᴰ·tail (rest (ltb→lt first n l))
     go rest (inr f) =
         let l = nltb→le first n (not-T (ltb first n) f) in
@@ -191,7 +208,9 @@ upto-intro first (suc count) n h k = go (λ l. upto-intro (suc first) count n l 
 pub upto-found : (first count n : ℕ) → List·Memᴰ n (upto first count) → (first ≤ n) × (n < first + count)
 upto-found first zero n i = absurd (List·Memᴰ·not-nil i)
 upto-found first (suc count) n (List·Memᴰ·head e) = (omega arith, omega arith)
-upto-found first (suc count) n (List·Memᴰ·tail i) = let r = upto-found (suc first) count n i in (omega arith, omega arith)
+upto-found first (suc count) n (List·Memᴰ·tail i) =
+    let r = upto-found (suc first) count n i in
+    (omega arith, omega arith)
 
 pub upto-length : (first count : ℕ) → length (upto first count) ≡ count
 upto-length first zero = refl
