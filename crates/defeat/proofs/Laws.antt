@@ -14,8 +14,8 @@ module _ {A : Type 0} (F : Frame A) where
     -- an argument is a sub-argument of itself
     pub sub-refl : (x : A) → F .Argument x → F .SubArgument x x
     -- members x and w of a concordant list have no sub-arguments y and z that exclude each other
-    pub concordant-apart : (l : List A) (x w y z : A) → F .Concordant l → List·Memᴰ x l → List·Memᴰ w l → F .Argument y → F .Argument z
-        → F .SubArgument y x → F .SubArgument z w → F .Excludes y z → ⊥
+    pub concordant-apart : (l : List A) (x w y z : A) → F .Concordant l → List·Memᴰ x l → List·Memᴰ w l
+        → F .Argument y → F .Argument z → F .SubArgument y x → F .SubArgument z w → F .Excludes y z → ⊥
     pub excludes-sym : (x y : A) → F .Excludes x y → F .Excludes y x
     -- for constructive logic: a defeater is proper or not, an argument preferred or not
     pub proper-known : (x y : A) → F .Argument x → F .Argument y → Dec (ProperDefeater F x y)

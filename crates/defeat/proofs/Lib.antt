@@ -2,3 +2,4 @@
 pub mod Laws
 pub mod Renders
 pub mod Defeat
+pub mod Kind
