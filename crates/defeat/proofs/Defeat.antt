@@ -36,7 +36,8 @@ module _ {A : Type 0} {F : Frame A} {t : Tests A} (R : Renders F t)
   proper-renders = decides-iff
       (λ r. record { at = r .0; attacks = attacked-found (r .1); preferred = r .2 })
       (λ p. (p .at, attacked-intro (p .attacks), p .preferred))
-      (decides-any (F .Preferred x) (t .preferred x) (attacked t x y) (λ z i. R .preferred x z ax (attacked-found i .argument)))
+      (decides-any (F .Preferred x) (t .preferred x) (attacked t x y)
+      (λ z i. R .preferred x z ax (attacked-found i .argument)))
 
   -- neither x nor z is preferred
   abbrev Neither : A → Type 0

@@ -134,7 +134,8 @@ module _ {A : Type 0} where
       both : A → Bool
       both y = kept y && test y
 
-      go : (b : Bool) → any test (filter kept l) ≡ any both l → any test (keep b x (filter kept l)) ≡ (b && test x) || any both l
+      go : (b : Bool) → any test (filter kept l) ≡ any both l
+          → any test (keep b x (filter kept l)) ≡ (b && test x) || any both l
       go true e = ap (λ r. test x || r) e
       go false e = e
 

@@ -3,7 +3,7 @@
 -- on. A reply of b's side to the longer line is one to the shorter. A reply of a's side to the shorter is one to the
 -- longer. So the marks of a's tree carry over: a is U below b, and b is D. Assumes nothing.
 use mathlib.Core.Path.{_≡_, refl, ap}
-use mathlib.Core.List.{List, [], _∷_, _++_, List·Memᴰ, List·Memᴰ·head, List·Memᴰ·tail, List·Memᴰ·not-nil, Memᴰ·append-left, List·Memᴰ·append-cases, List·Memᴰ·eq-of-singleton}
+use mathlib.Core.List.{List, [], _∷_, _++_, List·Memᴰ, List·Memᴰ·head, List·Memᴰ·tail, Memᴰ·append-left, List·Memᴰ·append-cases, List·Memᴰ·eq-of-singleton}
 use mathlib.Core.Logic.{_⊎_, inl, inr}
 use Prim.Native.Nat.{ℕ}
 use native.Mathlib.Omega.{arith}
@@ -16,7 +16,8 @@ use Rattle.defeat.proofs.Defeat.{defeater-attacks, defeater-either}
 use Rattle.tree.specs.Line.{Line, root, reply, NoneWithinEarlier, ProperAfterBlocking, AcceptableLine}
 use Rattle.tree.specs.Marks.{Mark, U, D, Child, Marked, undefeated, defeated, UndefeatedRoot}
 use Rattle.tree.specs.Reply.{mine, theirs}
-use Rattle.tree.proofs.Line.{line-last, acceptable-mine, acceptable-theirs, acceptable-by-sides}
+use Rattle.tree.proofs.Line.{line-last, acceptable-mine, acceptable-theirs, acceptable-by-sides, acceptable-one}
+use Rattle.tree.proofs.Reply.{Joins, joins-intro, joins-found}
 use Rattle.tree.proofs.Marks.{marked-apart, child-acceptable}
 
 no-nil : {A : Type 0} {x : A} {l : List A} → (x ∷ l ≡ []) → ⊥
@@ -75,31 +76,39 @@ module _ {A : Type 0} {F : Frame A} (L : Laws F) (b : A) where
 
   -- ---- replies of a's side to the shorter line are replies to the longer
 
-  -- y attacks the last argument x, which is concordant with b: y is no sub-argument of b
+  -- y attacks the last argument x, whose side has b too: were y a sub-argument of b, the side were not concordant
   apart : (x : A) (l : List A) (y : A) → Others (x ∷ l) → F .Argument y → Defeater F y x → ¬ F .SubArgument y b
   apart x l y i ay d s =
-      let h = defeater-attacks d in
-      L .concordant-apart (mine (below (x ∷ l))) b x y (h .0) (acceptable-mine (i .keeps)) (i .with-b) (List·Memᴰ·head refl) ay (h .1 .argument) s (h .1 .sub) (h .1 .excludes)
+      let (z, at) = defeater-attacks d in
+      let side = acceptable-mine (i .keeps) in
+      let here = List·Memᴰ·head refl in
+      let az = at .argument in
+      L .concordant-apart (mine (below (x ∷ l))) b x y z side (i .with-b) here ay az s (at .sub) (at .excludes)
 
   more : (l : List A) (y : A) → Others l → Child F l y → Child F (below l) y
   more [] y i c = absurd c
   more (x ∷ []) y i c = absurd (no-nil (i .same))
   more (x ∷ w ∷ l) y i c = (
-    c .0,
-    acceptable-by-sides
-        (reply ay (c .0) (i .keeps .line))
-        (rw (i .same) (acceptable-mine (c .1)))
-        (acceptable-mine (i .keeps))
-        (λ e m. earlier e (List·Memᴰ·append-cases (x ∷ w ∷ l) m), i .keeps .none-within)
-        (c .1 .proper-after .0, i .keeps .proper-after),
+    d,
+    joins-intro (i .keeps) ay d (record {
+      none-within = λ e m. earlier e (List·Memᴰ·append-cases (x ∷ w ∷ l) m);
+      follows = j .follows;
+      side = rw (i .same) (j .side);
+    }),
   )
     where
+      d : Defeater F y x
+      d = c .0
+
       ay : F .Argument y
       ay = line-last (c .1 .line)
 
+      j : Joins F (x ∷ w ∷ l) y
+      j = joins-found (c .1)
+
       earlier : (e : A) → List·Memᴰ e (x ∷ w ∷ l) ⊎ List·Memᴰ e (b ∷ []) → ¬ F .SubArgument y e
-      earlier e (inl m) = c .1 .none-within .0 e m
-      earlier e (inr m) = rw (List·Memᴰ·eq-of-singleton m) (apart x (w ∷ l) y i ay (c .0))
+      earlier e (inl m) = j .none-within e m
+      earlier e (inr m) = rw (List·Memᴰ·eq-of-singleton m) (apart x (w ∷ l) y i ay d)
 
   -- ---- so marks carry over: U on a's side, D on b's
 
@@ -108,10 +117,18 @@ module _ {A : Type 0} {F : Frame A} (L : Laws F) (b : A) where
   On D l = Others l
 
   turn-U : (l : List A) (y : A) → Ours l → Child F (below l) y → Others (y ∷ l)
-  turn-U l y i c = record { same = i .same; with-b = List·Memᴰ·tail (i .with-b); keeps = child-acceptable F (below l) y c }
+  turn-U l y i c = record {
+    same = i .same;
+    with-b = List·Memᴰ·tail (i .with-b);
+    keeps = child-acceptable F (below l) y c;
+  }
 
   turn-D : (l : List A) (y : A) → Others l → Child F (below l) y → Ours (y ∷ l)
-  turn-D l y i c = record { same = ap (λ s. y ∷ s) (i .same); with-b = i .with-b; keeps = child-acceptable F (below l) y c }
+  turn-D l y i c = record {
+    same = ap (λ s. y ∷ s) (i .same);
+    with-b = i .with-b;
+    keeps = child-acceptable F (below l) y c;
+  }
 
   carry : {m : Mark} {l : List A} → Marked F m l → On m l → Marked F m (below l)
   carry (undefeated {l = l} f) i = undefeated (λ y c. carry (f y (fewer l y i c)) (turn-U l y i c))
@@ -121,19 +138,28 @@ module _ {A : Type 0} {F : Frame A} (L : Laws F) (b : A) where
 
   module _ (a : A) (aa : F .Argument a) (ab : F .Argument b) (e : F .Excludes a b) (d : Defeater F a b) where
     -- were a a sub-argument of b, then b alone were not concordant
-    first : Child F (b ∷ []) a
-    first = (d, acceptable-by-sides (reply aa d (root ab)) (L .concordant-one a aa) (L .concordant-one b ab) (none, (λ x i. absurd (List·Memᴰ·not-nil i), tt)) tt)
-      where
-        here : List·Memᴰ b (b ∷ [])
-        here = List·Memᴰ·head refl
+    not-within : ¬ F .SubArgument a b
+    not-within s =
+        let here = List·Memᴰ·head refl in
+        L .concordant-apart (b ∷ []) b b a b (L .concordant-one b ab) here here aa ab s (L .sub-refl b ab) e
 
-        none : (x : A) → List·Memᴰ x (b ∷ []) → ¬ F .SubArgument a x
-        none x i s = L .concordant-apart (b ∷ []) b b a b (L .concordant-one b ab) here here aa ab (rw (List·Memᴰ·eq-of-singleton i) at s) (L .sub-refl b ab) e
+    answer : Child F (b ∷ []) a
+    answer = (
+      d,
+      joins-intro (acceptable-one L ab) aa d (record {
+        none-within = λ x i. rw (List·Memᴰ·eq-of-singleton i) not-within;
+        follows = tt;
+        side = L .concordant-one a aa;
+      }),
+    )
 
     root-defeated : UndefeatedRoot F a → Marked F D (b ∷ [])
-    root-defeated u = defeated a first (carry u (record { same = refl; with-b = List·Memᴰ·head refl; keeps = first .1 }))
+    root-defeated u =
+        let start : Ours (a ∷ []) = record { same = refl; with-b = List·Memᴰ·head refl; keeps = answer .1 } in
+        defeated a answer (carry u start)
 
-pub exclusive-roots : {A : Type 0} {F : Frame A} → Laws F → (a b : A) → F .Argument a → F .Argument b → F .Excludes a b → UndefeatedRoot F a → UndefeatedRoot F b → ⊥
+pub exclusive-roots : {A : Type 0} {F : Frame A} → Laws F → (a b : A) → F .Argument a → F .Argument b → F .Excludes a b
+    → UndefeatedRoot F a → UndefeatedRoot F b → ⊥
 exclusive-roots {A} {F} L a b aa ab e u v = go (defeater-either L a b aa ab e)
   where
     go : Defeater F a b ⊎ Defeater F b a → ⊥

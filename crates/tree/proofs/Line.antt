@@ -44,6 +44,11 @@ module _ {A : Type 0} where
         next = λ y m. (e .next y m .1, e .next y m .0);
       })
 
+  -- four arguments, the root w at position 0
+  pub positions-four : (w x y z : A)
+      → (atEven (z ∷ y ∷ x ∷ w ∷ []) ≡ y ∷ w ∷ []) × (atOdd (z ∷ y ∷ x ∷ w ∷ []) ≡ z ∷ x ∷ [])
+  positions-four w x y z = (refl, refl)
+
   -- a side has arguments of the line only
   pub sides-within : (l : List A) → Within (mine l) l × Within (theirs l) l
   sides-within [] = (within-nil [], within-nil [])
@@ -82,12 +87,16 @@ module _ {A : Type 0} {F : Frame A} {l : List A} where
       go (inl o) = rw (o .theirs-even) (a .even)
       go (inr e) = rw (e .theirs-odd) (a .odd)
 
-  pub acceptable-by-sides : Line F l → F .Concordant (mine l) → F .Concordant (theirs l) → NoneWithinEarlier F l → ProperAfterBlocking F l → AcceptableLine F l
+  pub acceptable-by-sides : Line F l → F .Concordant (mine l) → F .Concordant (theirs l)
+      → NoneWithinEarlier F l → ProperAfterBlocking F l → AcceptableLine F l
   acceptable-by-sides h m t w p = go (sides-positions l)
     where
+      by : F .Concordant (atEven l) → F .Concordant (atOdd l) → AcceptableLine F l
+      by e o = record { line = h; even = e; odd = o; none-within = w; proper-after = p }
+
       go : EndsOdd l ⊎ EndsEven l → AcceptableLine F l
-      go (inl o) = record { line = h; even = rw (← o .theirs-even) t; odd = rw (← o .mine-odd) m; none-within = w; proper-after = p }
-      go (inr e) = record { line = h; even = rw (← e .mine-even) m; odd = rw (← e .theirs-odd) t; none-within = w; proper-after = p }
+      go (inl o) = by (rw (← o .theirs-even) t) (rw (← o .mine-odd) m)
+      go (inr e) = by (rw (← e .mine-even) m) (rw (← e .theirs-odd) t)
 
 -- a single argument is an acceptable line
 pub acceptable-one : {A : Type 0} {F : Frame A} → Laws F → {a : A} → F .Argument a → AcceptableLine F (a ∷ [])

@@ -68,58 +68,74 @@ two-is : (b : Bool) → (markOf b ≡ 2) ↔ T (not b)
 two-is true = (λ e. absurd (omega (arith, e)), λ h. absurd h)
 two-is false = (λ e. tt, λ h. refl)
 
+-- the test passes where the node at the end of the line is U, and fails where it is D
+pub record Marks {A : Type 0} (F : Frame A) (test : Bool) (l : List A) : Type 0 where
+  pub if-U : Decides test (Marked F U l)
+  pub if-D : Decides (not test) (Marked F D l)
+
 module _ {A : Type 0} {F : Frame A} {t : Tests A} (L : Laws F) (R : Renders F t) where
-  -- the listed arguments are sub-arguments of themselves, as `remaining-falls` asks
-  pub own : (x : A) → List·Memᴰ x (t .arguments) → T (t .sub x x)
-  own x i = let a = R .argument x .1 i in R .sub x x a a .passes (L .sub-refl x a)
+  -- a listed argument is a sub-argument of itself, as the laws of `replies` ask
+  pub itself : (x : A) → List·Memᴰ x (t .arguments) → T (t .sub x x)
+  itself x i = let a = R .argument x .1 i in R .sub x x a a .passes (L .sub-refl x a)
 
-  -- the test says U where it passes and D where it fails
-  pub record Marks (test : Bool) (l : List A) : Type 0 where
-    pub if-U : Decides test (Marked F U l)
-    pub if-D : Decides (not test) (Marked F D l)
-
-  marks-to : (n : ℕ) (l : List A) → AcceptableLine F l → remaining t l < n → Marks (allDefeated (repliesTo t n l)) l
+  marks-to : (n : ℕ) (l : List A) → AcceptableLine F l → remaining t l < n → Marks F (allDefeated (repliesTo t n l)) l
   unfolding repliesTo
   marks-to zero l a h = absurd (omega arith)
   marks-to (suc n) l a h = record {
     if-U = decides-iff
-        (λ e. undefeated (λ y c. e y (R .argument y .0 (child-argument F l y c)) (child y (child-argument F l y c) .1 c)))
+        (λ e. undefeated (λ y c. e y (listed y c) (child y (argument y c) .1 c)))
         (λ u y i k. marked-every u y (child y (R .argument y .1 i) .0 k))
-        (from-every (replyKind t l) (λ y. repliesTo t n (y ∷ l)) (λ y. Marked F D (y ∷ l)) (t .arguments) (λ y i k. let b = next y i k in marks-to n (y ∷ l) (b .0) (b .1) .if-D));
+        (from-every (replyKind t l) (λ y. repliesTo t n (y ∷ l)) (λ y. Marked F D (y ∷ l)) (t .arguments)
+        (λ y i k. marks-to n (y ∷ l) (next y i k) (less y i k) .if-D));
     if-D = decides-iff
         (λ s. defeated (s .0) (child (s .0) (R .argument (s .0) .1 (s .1)) .0 (s .2)) (s .3))
-        (λ d. let s = marked-some d in (s .0, R .argument (s .0) .0 (child-argument F l (s .0) (s .1)), child (s .0) (child-argument F l (s .0) (s .1)) .1 (s .1), s .2))
-        (from-some (replyKind t l) (λ y. repliesTo t n (y ∷ l)) (λ y. Marked F U (y ∷ l)) (t .arguments) (λ y i k. let b = next y i k in marks-to n (y ∷ l) (b .0) (b .1) .if-U));
+        (λ d. let (y, c, u) = marked-some d in (y, listed y c, child y (argument y c) .1 c, u))
+        (from-some (replyKind t l) (λ y. repliesTo t n (y ∷ l)) (λ y. Marked F U (y ∷ l)) (t .arguments)
+        (λ y i k. marks-to n (y ∷ l) (next y i k) (less y i k) .if-U));
   }
     where
       child : (y : A) → F .Argument y → (replyKind t l y ≢ 0) ↔ Child F l y
       child y ay = reply-child R l a y ay
 
-      -- a child's line is acceptable, and leaves less
-      next : (y : A) → List·Memᴰ y (t .arguments) → replyKind t l y ≢ 0 → AcceptableLine F (y ∷ l) × (remaining t (y ∷ l) < n)
-      next y i k =
-          let f = remaining-falls t own l y i k in
-          (child-acceptable F l y (child y (R .argument y .1 i) .0 k), omega arith)
+      argument : (y : A) → Child F l y → F .Argument y
+      argument = child-argument F l
 
-  -- the computed mark of the node at the end of an acceptable line
-  pub replies-marks : (l : List A) → AcceptableLine F l → Marks (allDefeated (replies t l)) l
-  unfolding replies
-  replies-marks l a = marks-to (suc (remaining t l)) l a (omega arith)
+      listed : (y : A) → Child F l y → List·Memᴰ y (t .arguments)
+      listed y c = R .argument y .0 (argument y c)
 
-  -- the same by document 01's numbers
-  pub mark-U : (l : List A) → AcceptableLine F l → (markOf (allDefeated (replies t l)) ≡ 1) ↔ Marked F U l
-  mark-U l a = (λ e. replies-marks l a .if-U .says (one-is (allDefeated (replies t l)) .0 e), λ u. one-is (allDefeated (replies t l)) .1 (replies-marks l a .if-U .passes u))
+      -- a child's line is acceptable, and leaves fewer arguments
+      next : (y : A) → List·Memᴰ y (t .arguments) → replyKind t l y ≢ 0 → AcceptableLine F (y ∷ l)
+      next y i k = child-acceptable F l y (child y (R .argument y .1 i) .0 k)
 
-  pub mark-D : (l : List A) → AcceptableLine F l → (markOf (allDefeated (replies t l)) ≡ 2) ↔ Marked F D l
-  mark-D l a = (λ e. replies-marks l a .if-D .says (two-is (allDefeated (replies t l)) .0 e), λ d. two-is (allDefeated (replies t l)) .1 (replies-marks l a .if-D .passes d))
+      less : (y : A) → List·Memᴰ y (t .arguments) → replyKind t l y ≢ 0 → remaining t (y ∷ l) < n
+      less y i k = omega (arith, remaining-falls t itself l y i k)
 
-  -- every acceptable line has a mark; `marked-unique` says that it has no other
-  pub marked-either : (l : List A) → AcceptableLine F l → Marked F U l ⊎ Marked F D l
-  marked-either l a = go (T-known (allDefeated (replies t l)))
-    where
-      go : T (allDefeated (replies t l)) ⊎ (T (allDefeated (replies t l)) → ⊥) → Marked F U l ⊎ Marked F D l
-      go (inl h) = inl (replies-marks l a .if-U .says h)
-      go (inr n) = inr (replies-marks l a .if-D .says (not-T (allDefeated (replies t l)) n))
+  module _ (l : List A) (a : AcceptableLine F l) where
+    -- the mark of the node at the end of the line, computed from the replies to it
+    pub replies-marks : Marks F (allDefeated (replies t l)) l
+    unfolding replies
+    replies-marks = marks-to (suc (remaining t l)) l a (omega arith)
+
+    -- the same by document 01's numbers
+    pub mark-U : (markOf (allDefeated (replies t l)) ≡ 1) ↔ Marked F U l
+    mark-U =
+        let m = replies-marks .if-U in
+        let one = one-is (allDefeated (replies t l)) in
+        (λ e. m .says (one .0 e), λ u. one .1 (m .passes u))
+
+    pub mark-D : (markOf (allDefeated (replies t l)) ≡ 2) ↔ Marked F D l
+    mark-D =
+        let m = replies-marks .if-D in
+        let two = two-is (allDefeated (replies t l)) in
+        (λ e. m .says (two .0 e), λ d. two .1 (m .passes d))
+
+    -- every acceptable line has a mark; `marked-unique` says that it has no other
+    pub marked-either : Marked F U l ⊎ Marked F D l
+    marked-either = go (T-known (allDefeated (replies t l)))
+      where
+        go : T (allDefeated (replies t l)) ⊎ (T (allDefeated (replies t l)) → ⊥) → Marked F U l ⊎ Marked F D l
+        go (inl h) = inl (replies-marks .if-U .says h)
+        go (inr n) = inr (replies-marks .if-D .says (not-T (allDefeated (replies t l)) n))
 
   -- a root's computed mark
   pub undefeated-renders : (a : A) → F .Argument a → Decides (undefeatedRoot t a) (UndefeatedRoot F a)

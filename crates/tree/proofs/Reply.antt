@@ -1,6 +1,6 @@
 -- The test of one more argument is the definition of a child: what was acceptable stays so exactly if the new argument
 -- passes. Assumes nothing.
-use mathlib.Core.Path.{_≡_, refl, sym, subst, ap, _∙_}
+use mathlib.Core.Path.{_≡_, refl, sym, subst, _∙_}
 use mathlib.Core.Bool.{Bool, true, false, not, _&&_, _||_}
 use mathlib.Core.List.{List, [], _∷_, List·Memᴰ, List·Memᴰ·head, List·Memᴰ·tail}
 use mathlib.Core.Logic.{_↔_, _≢_}
@@ -46,7 +46,8 @@ module _ {A : Type 0} (F : Frame A) where
     pub side : F .Concordant (y ∷ theirs l)
 
 module _ {A : Type 0} {F : Frame A} {y x : A} {l : List A} where
-  pub joins-intro : AcceptableLine F (x ∷ l) → F .Argument y → Defeater F y x → Joins F (x ∷ l) y → AcceptableLine F (y ∷ x ∷ l)
+  pub joins-intro : AcceptableLine F (x ∷ l) → F .Argument y → Defeater F y x → Joins F (x ∷ l) y
+      → AcceptableLine F (y ∷ x ∷ l)
   joins-intro a ay d j = acceptable-by-sides
       (reply ay d (a .line))
       (j .side)

@@ -19,9 +19,11 @@ module _ {A : Type 0} (place : A → ℕ) where
   -- the nodes of trees with one parent, where the first node's number is `at`
   abbrev pub preorder : ℕ → ℕ → Forest A → List Entry
   preorder at parent none = []
-  preorder at parent (tree a k c r) = entryOf parent a k c ∷ (preorder (suc at) at c ++ preorder (suc at + size c) parent r)
+  preorder at parent (tree a k c r) =
+      entryOf parent a k c ∷ (preorder (suc at) at c ++ preorder (suc at + size c) parent r)
 
   -- the nodes of a forest, where the first node's number is `at`: a root's parent is its own number
   abbrev pub entries : ℕ → Forest A → List Entry
   entries at none = []
-  entries at (tree a k c r) = entryOf at a k c ∷ (preorder (suc at) at c ++ entries (suc at + size c) r)
+  entries at (tree a k c r) =
+      entryOf at a k c ∷ (preorder (suc at) at c ++ entries (suc at + size c) r)

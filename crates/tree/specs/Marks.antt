@@ -14,8 +14,8 @@ module _ {A : Type 0} (F : Frame A) where
   Child [] y = ⊥
   Child (x ∷ l) y = Defeater F y x × AcceptableLine F (y ∷ x ∷ l)
 
-  -- "A leaf is marked U. An inner node is U exactly when every child is D, else D." A leaf has no child, so every child of
-  -- it is D. `Marked m l` says that the node at the end of the line l is marked m.
+  -- "A leaf is marked U. An inner node is U exactly when every child is D, else D." A leaf has no child, so every child
+  -- of it is D. `Marked m l` says that the node at the end of the line l is marked m.
   pub data Marked : Mark → List A → Type 0 where
     undefeated : {l : List A} → ((y : A) → Child l y → Marked D (y ∷ l)) → Marked U l
     defeated : {l : List A} (y : A) → Child l y → Marked U (y ∷ l) → Marked D l
