@@ -48,16 +48,17 @@ module _ {A : Type 0} (t : Tests A) where
   unfoldable pub remaining : List A → ℕ
   remaining l = length (filter (unused t l) (t .arguments))
 
-  -- the replies to the line, each with the replies to it: to a depth that no line reaches. `replies-unroll` of proofs/
-  -- says so without a depth.
+  -- "The children of a node are all defeaters that keep the line acceptable, in list order", each with the replies to
+  -- it. No line is so long that it reaches the depth: `replies-unroll` of proofs/ says the same without one.
   unfoldable pub replies : List A → Forest A
   replies l = repliesTo (suc (remaining l)) l
 
-  -- the tree of each root, in order; a root's kind is 0
+  -- "The forest of h is the tree of each argument for h in list order, then those for its complement": the roots are
+  -- given here, in that order. A root's kind is 0.
   unfoldable pub forestOf : List A → Forest A
   forestOf [] = none
   forestOf (a ∷ roots) = tree a 0 (replies (a ∷ [])) (forestOf roots)
 
-  -- whether the root is marked U
+  -- whether a, as the root of a tree, is marked U: all replies to it are D
   unfoldable pub undefeatedRoot : A → Bool
   undefeatedRoot a = allDefeated (replies (a ∷ []))

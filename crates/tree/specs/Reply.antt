@@ -1,5 +1,5 @@
--- One more argument after a line, as tests that evaluate. The line was acceptable before, so only the new argument is
--- tested against it.
+-- One more argument after a line, as tests that evaluate. The line was acceptable before, so it is enough to test the
+-- new argument against it.
 use mathlib.Core.Bool.{Bool, true, false, not, _&&_, _||_}
 use mathlib.Core.List.{List, [], _∷_}
 use Prim.Native.Nat.{ℕ, zero, suc}
@@ -34,7 +34,7 @@ module _ {A : Type 0} (t : Tests A) where
   mayFollow (x ∷ []) y = true
   mayFollow (x ∷ w ∷ l) y = not (blocking t x w) || proper t y x
 
-  -- y keeps the line acceptable; its own side is the one that is not the last argument's
+  -- y keeps the line acceptable. Its side is the one that is not the last argument's.
   unfoldable pub joins : List A → A → Bool
   joins l y = unused l y && (mayFollow l y && t .concordant (y ∷ theirs l))
 
