@@ -1,0 +1,286 @@
+//! Sound programs of many shapes, and now and then one with a contradictory strict part.
+
+use super::damage::contradiction;
+use super::description::{Description, RuleText};
+use super::random::Random;
+use super::soundrules::RuleSupply;
+use super::{Case, Verdict};
+
+/// The rough measures of a program.
+struct Shape {
+    name: &'static str,
+    atoms: usize,
+    facts: usize,
+    strict: usize,
+    defeasible: usize,
+    longest_body: usize,
+    /// Chance of each possible pair, in a hundred.
+    pairs: usize,
+}
+
+/// `count` images without faults, but for a few with cause 14.
+pub fn accepted(seed: u64, count: usize) -> impl Iterator<Item = Case> {
+    let mut random = Random::seeded(seed);
+    (0..count).map(move |index| match index % 16 {
+        0..=9 => shaped(&mut random, small),
+        10..=12 => shaped(&mut random, medium),
+        13 => shaped(&mut random, large),
+        14 => chains(&mut random),
+        _ => unconnected(&mut random),
+    })
+}
+
+/// Only the small shapes, whose arguments attack each other a lot.
+pub fn small_programs(seed: u64, count: usize) -> impl Iterator<Item = Case> {
+    let mut random = Random::seeded(seed);
+    (0..count).map(move |_| shaped(&mut random, small))
+}
+
+fn small(random: &mut Random) -> Shape {
+    Shape {
+        name: "small",
+        atoms: random.between(2, 6),
+        facts: random.between(1, 2),
+        strict: random.below(5),
+        defeasible: random.between(2, 8),
+        longest_body: 2,
+        pairs: random.pick(&[0, 5, 10, 20, 40]),
+    }
+}
+
+fn medium(random: &mut Random) -> Shape {
+    Shape {
+        name: "medium",
+        atoms: random.between(6, 16),
+        facts: random.between(1, 5),
+        strict: random.between(1, 16),
+        defeasible: random.between(5, 12),
+        longest_body: 3,
+        pairs: random.pick(&[0, 5, 10, 30]),
+    }
+}
+
+fn large(random: &mut Random) -> Shape {
+    let facts = random.between(1, 12);
+    let defeasible = random.between(10, 16);
+    Shape {
+        name: "large",
+        atoms: random.between(16, 64),
+        facts,
+        strict: random.between(10, 96 - facts - defeasible),
+        defeasible,
+        longest_body: 8,
+        pairs: random.pick(&[0, 10, 50, 100]),
+    }
+}
+
+/// A program grown from its facts: most bodies are made of literals that were heads before.
+fn shaped(random: &mut Random, measure: fn(&mut Random) -> Shape) -> Case {
+    let shape = measure(random);
+    let facts = shape.facts.min(shape.atoms - 1);
+    let mut settled: Vec<Option<u8>> = vec![None; shape.atoms];
+    for atom in settled.iter_mut().take(facts) {
+        *atom = Some(random.below(2) as u8);
+    }
+    let mut rules = Vec::new();
+    let mut heads: Vec<u8> = Vec::new();
+    for (atom, sign) in settled.iter().enumerate() {
+        if let Some(sign) = sign {
+            let head = 2 * atom as u8 + sign;
+            heads.push(head);
+            rules.push(fact(head));
+        }
+    }
+    // Strict rules may settle some more atoms.
+    for atom in settled.iter_mut().skip(facts) {
+        if random.chance(15) {
+            *atom = Some(random.below(2) as u8);
+        }
+    }
+    let mut supply = RuleSupply::with_settled(settled);
+    for rule in &rules {
+        supply.take(rule);
+    }
+    let mut kinds = vec![true; shape.defeasible];
+    kinds.extend(vec![false; shape.strict]);
+    random.shuffle(&mut kinds);
+    for defeasible in kinds {
+        if let Some(rule) = connected(random, &mut supply, &heads, defeasible, &shape) {
+            heads.push(rule.head);
+            rules.push(rule);
+        }
+    }
+    finish(random, shape.name, shape.atoms, rules, shape.pairs)
+}
+
+fn fact(head: u8) -> RuleText {
+    RuleText {
+        defeasible: false,
+        head,
+        body: Vec::new(),
+    }
+}
+
+/// A new rule over the heads there are, often against one of them. None if none was found.
+fn connected(
+    random: &mut Random,
+    supply: &mut RuleSupply,
+    heads: &[u8],
+    defeasible: bool,
+    shape: &Shape,
+) -> Option<RuleText> {
+    let literals = supply.literals();
+    for _ in 0..50 {
+        let head = if random.chance(45) {
+            random.pick(heads) ^ 1
+        } else {
+            random.pick(&literals)
+        };
+        let longest = if random.chance(80) {
+            2.min(shape.longest_body)
+        } else {
+            shape.longest_body
+        };
+        let length = random.between(1, longest);
+        let mut body: Vec<u8> = (0..length)
+            .map(|_| {
+                if random.chance(90) {
+                    random.pick(heads)
+                } else {
+                    random.pick(&literals)
+                }
+            })
+            .collect();
+        body.sort_unstable();
+        body.dedup();
+        let rule = RuleText {
+            defeasible,
+            head,
+            body,
+        };
+        let against_itself = rule.body.contains(&rule.head) && random.chance(90);
+        let sound = defeasible || supply.is_safe(rule.head, &rule.body);
+        if sound && !against_itself && supply.take(&rule) {
+            return Some(rule);
+        }
+    }
+    None
+}
+
+/// Long chains of strict and of defeasible rules in the order that suits derivation least.
+fn chains(random: &mut Random) -> Case {
+    let atoms = random.between(12, 64);
+    let strict = random.between(4, (atoms - 4).min(70));
+    let defeasible = random.between(2, 16);
+    let mut rules = vec![fact(0)];
+    for link in 0..strict {
+        // Atom 1 is reached by defeasible rules only, so the chain is out of Π's reach.
+        rules.push(RuleText {
+            defeasible: false,
+            head: 2 * (link + 2) as u8,
+            body: vec![2 * (link + 1) as u8],
+        });
+    }
+    rules.reverse();
+    let literals: Vec<u8> = (0..2 * atoms as u8).collect();
+    let mut supply = RuleSupply::with_settled(vec![None; atoms]);
+    let mut heads = vec![0, 2, 2, 3];
+    for _ in 0..defeasible {
+        let rule = RuleText {
+            defeasible: true,
+            head: if random.chance(50) {
+                random.pick(&[2, 3])
+            } else {
+                random.pick(&literals)
+            },
+            body: vec![random.pick(&heads)],
+        };
+        if supply.take(&rule) {
+            heads.push(rule.head);
+            rules.push(rule);
+        }
+    }
+    let pairs = random.pick(&[0, 10, 40]);
+    let order_matters = random.chance(70);
+    if order_matters {
+        let pairs = random_pairs(random, &rules, pairs);
+        return case("chains", atoms, rules, pairs, (0, 0));
+    }
+    finish(random, "chains", atoms, rules, pairs)
+}
+
+/// Sound rules that have nothing to do with each other, from no rule at all to 96.
+fn unconnected(random: &mut Random) -> Case {
+    let atoms = random.between(4, 64);
+    let count = random.pick(&[0, 1, 2, 5, 20, 60, 96]);
+    let mut supply = RuleSupply::new(random, atoms);
+    let mut defeasible_left = random.below(17);
+    let mut rules = Vec::new();
+    for _ in 0..count {
+        let defeasible = defeasible_left > 0 && random.chance(50);
+        defeasible_left -= usize::from(defeasible);
+        rules.push(supply.rule(random, defeasible));
+    }
+    let pairs = random.pick(&[0, 30, 100]);
+    finish(random, "unconnected", atoms, rules, pairs)
+}
+
+/// Shuffles the rules, chooses pairs, and sometimes makes the strict part contradictory.
+fn finish(
+    random: &mut Random,
+    name: &str,
+    atoms: usize,
+    mut rules: Vec<RuleText>,
+    pairs: usize,
+) -> Case {
+    let mut expected = (0, 0);
+    if random.chance(4) && rules.len() < 90 {
+        for rule in contradiction(random, atoms) {
+            if !rules.contains(&rule) {
+                rules.push(rule);
+            }
+        }
+        expected = (14, 0);
+    }
+    random.shuffle(&mut rules);
+    let pairs = random_pairs(random, &rules, pairs);
+    case(name, atoms, rules, pairs, expected)
+}
+
+fn random_pairs(random: &mut Random, rules: &[RuleText], percent: usize) -> Vec<(u8, u8)> {
+    let mut pairs = Vec::new();
+    for first in 0..rules.len() {
+        for second in 0..rules.len() {
+            let both_defeasible = rules[first].defeasible && rules[second].defeasible;
+            if first != second && both_defeasible && random.chance(percent) {
+                pairs.push((first as u8, second as u8));
+            }
+        }
+    }
+    pairs
+}
+
+fn case(
+    name: &str,
+    atoms: usize,
+    rules: Vec<RuleText>,
+    pairs: Vec<(u8, u8)>,
+    expected: Verdict,
+) -> Case {
+    let description = Description {
+        atoms: atoms as u16,
+        rules,
+        pairs,
+    };
+    Case {
+        image: description.image(),
+        expected: Some(expected),
+        planted: if expected == (0, 0) {
+            Vec::new()
+        } else {
+            vec![expected]
+        },
+        scenario: None,
+        note: format!("{name} program"),
+    }
+}
