@@ -8,15 +8,16 @@ use super::program::Rule;
 /// A rule is applied as soon as its whole body was derived earlier; when a pass over all rules
 /// adds nothing, no chain of rules leads any further.
 pub fn derived(rules: &[&Rule], added_facts: &[Literal]) -> LiteralSet {
-    let mut known = LiteralSet::default();
-    for &fact in added_facts {
-        known.insert(fact);
-    }
+    let mut known: LiteralSet = added_facts.iter().copied().collect();
+    let steps: Vec<(LiteralSet, Literal)> = rules
+        .iter()
+        .map(|rule| (rule.body.iter().copied().collect(), rule.head))
+        .collect();
     loop {
         let before = known;
-        for rule in rules {
-            if rule.body.iter().all(|&literal| known.contains(literal)) {
-                known.insert(rule.head);
+        for &(body, head) in &steps {
+            if body.is_subset_of(known) {
+                known.insert(head);
             }
         }
         if known == before {

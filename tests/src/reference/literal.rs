@@ -62,7 +62,33 @@ impl LiteralSet {
 
     /// True if some literal and its complement are both in the set.
     pub fn has_complements(self) -> bool {
-        self.iter()
-            .any(|literal| self.contains(literal.complement()))
+        // Complements are neighbours: bits 0 and 1, 2 and 3, and so on.
+        const POSITIVE: u128 = u128::MAX / 3;
+        self.0 & (self.0 >> 1) & POSITIVE != 0
+    }
+}
+
+impl FromIterator<Literal> for LiteralSet {
+    fn from_iter<I: IntoIterator<Item = Literal>>(literals: I) -> LiteralSet {
+        let mut set = LiteralSet::default();
+        for literal in literals {
+            set.insert(literal);
+        }
+        set
+    }
+}
+
+#[cfg(test)]
+mod tests {
+    use super::*;
+
+    #[test]
+    fn complements_are_found_wherever_they_are() {
+        for one in Literal::all() {
+            for other in Literal::all() {
+                let set: LiteralSet = [one, other].into_iter().collect();
+                assert_eq!(set.has_complements(), one.complement() == other);
+            }
+        }
     }
 }
