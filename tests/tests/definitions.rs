@@ -248,6 +248,8 @@ fn enormous_forests_are_given_up_at_once() {
         assert_eq!(answer.code, Code::Unfinished);
         assert_eq!(answer.nodes, budget as usize);
     }
+    let forest = Forest::of(Literal::new(2), &analysis, 300_000);
+    assert!(forest.is_none(), "far from small");
 }
 
 /// The programs are worth asking about: all answers and kinds of defeat come up, and long lines.

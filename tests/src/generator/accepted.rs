@@ -22,7 +22,9 @@ struct Shape {
 pub fn accepted(seed: u64, count: usize) -> impl Iterator<Item = Case> {
     let mut random = Random::seeded(seed);
     (0..count).map(move |index| match index % 16 {
-        0..=9 => shaped(&mut random, small),
+        0..=5 => shaped(&mut random, small),
+        6..=7 => contested(&mut random, 4),
+        8..=9 => contested(&mut random, 7),
         10..=12 => shaped(&mut random, medium),
         13 => shaped(&mut random, large),
         14 => chains(&mut random),
@@ -33,7 +35,10 @@ pub fn accepted(seed: u64, count: usize) -> impl Iterator<Item = Case> {
 /// Only the small shapes, whose arguments attack each other a lot.
 pub fn small_programs(seed: u64, count: usize) -> impl Iterator<Item = Case> {
     let mut random = Random::seeded(seed);
-    (0..count).map(move |_| shaped(&mut random, small))
+    (0..count).map(move |index| match index % 2 {
+        0 => shaped(&mut random, small),
+        _ => contested(&mut random, 4),
+    })
 }
 
 fn small(random: &mut Random) -> Shape {
@@ -165,6 +170,117 @@ fn connected(
         }
     }
     None
+}
+
+/// One atom with many arguments on both sides.
+///
+/// Each side has literals of its own, reached by defeasible rules from the facts, and rules that
+/// lead from some of them to the contested literal. A side's arguments go together, so the
+/// lines grow long wherever the pairs allow it.
+fn contested(random: &mut Random, most_per_side: usize) -> Case {
+    let facts = random.between(1, 3);
+    let fewest_per_side = most_per_side.div_ceil(2);
+    let sizes = [
+        random.between(fewest_per_side, most_per_side),
+        random.between(fewest_per_side, most_per_side),
+    ];
+    let atoms = facts + sizes[0] + sizes[1] + 1 + random.below(3);
+    let literal = |random: &mut Random, atom: usize| (2 * atom + random.below(2)) as u8;
+    let mut rules = Vec::new();
+    let mut heads = Vec::new();
+    for atom in 0..facts {
+        let head = literal(random, atom);
+        heads.push(head);
+        rules.push(fact(head));
+    }
+    let mut settled: Vec<Option<u8>> = vec![None; atoms];
+    for head in &heads {
+        settled[usize::from(head / 2)] = Some(head % 2);
+    }
+    let mut supply = RuleSupply::with_settled(settled);
+    for rule in &rules {
+        supply.take(rule);
+    }
+    let mut defeasible_left = 16;
+    let mut next_atom = facts;
+    let mut sides: Vec<Vec<u8>> = Vec::new();
+    for size in sizes {
+        let mut side = Vec::new();
+        for _ in 0..size {
+            let head = literal(random, next_atom);
+            next_atom += 1;
+            side.push(head);
+            let count = random.between(1, heads.len().min(2));
+            let mut body = random.sample(&heads, count);
+            body.sort_unstable();
+            let rule = RuleText {
+                defeasible: true,
+                head,
+                body,
+            };
+            supply.take(&rule);
+            rules.push(rule);
+            defeasible_left -= 1;
+        }
+        sides.push(side);
+    }
+    let at_stake = literal(random, next_atom);
+    for (side, head) in sides.iter().zip([at_stake, at_stake ^ 1]) {
+        // A body of one literal outdoes all longer ones with it, so mostly there is none.
+        let shortest = random.pick(&[1, 2, 2, 2]);
+        for _ in 0..random.between(side.len(), 3 * side.len()) {
+            let length = random.between(shortest, side.len().min(3));
+            let mut body = random.sample(side, length);
+            body.sort_unstable();
+            let defeasible = defeasible_left > 0 && random.chance(10);
+            let rule = RuleText {
+                defeasible,
+                head,
+                body,
+            };
+            if supply.take(&rule) {
+                defeasible_left -= usize::from(defeasible);
+                rules.push(rule);
+            }
+        }
+    }
+    heads.extend(sides.concat());
+    heads.extend([at_stake, at_stake ^ 1]);
+    let shape = Shape {
+        name: "contested",
+        atoms,
+        facts,
+        strict: random.below(2),
+        defeasible: random.below(2).min(defeasible_left),
+        longest_body: 2,
+        pairs: random.pick(&[5, 10, 20, 30]),
+    };
+    for more in 0..shape.strict + shape.defeasible {
+        let defeasible = more >= shape.strict;
+        rules.extend(connected(random, &mut supply, &heads, defeasible, &shape));
+    }
+    if random.chance(40) {
+        return finish(random, shape.name, shape.atoms, rules, shape.pairs);
+    }
+    // Pairs between the sides only, so that many arguments are preferred over another.
+    random.shuffle(&mut rules);
+    let side_of = |rule: &RuleText| sides.iter().position(|side| side.contains(&rule.head));
+    let chances = [random.pick(&[10, 20, 40]), random.pick(&[0, 10, 20])];
+    let swapped = random.below(2);
+    let mut pairs = Vec::new();
+    for (first, winner) in rules.iter().enumerate() {
+        for (second, loser) in rules.iter().enumerate() {
+            if !winner.defeasible || !loser.defeasible {
+                continue;
+            }
+            if let (Some(one), Some(other)) = (side_of(winner), side_of(loser)) {
+                if one != other && random.chance(chances[one ^ swapped]) {
+                    pairs.push((first as u8, second as u8));
+                }
+            }
+        }
+    }
+    case(shape.name, shape.atoms, rules, pairs, (0, 0))
 }
 
 /// Long chains of strict and of defeasible rules in the order that suits derivation least.

@@ -5,7 +5,7 @@ use super::random::Random;
 use super::{Case, Verdict};
 
 pub fn noise(random: &mut Random) -> Case {
-    let sound = accepted(random.next(), 16)
+    let sound = accepted(random.number(), 16)
         .nth(random.below(16))
         .expect("sixteen were asked for")
         .image;

@@ -247,7 +247,7 @@ fn other_number(random: &mut Random, number: u16) -> u16 {
         0 => number.wrapping_add(1),
         1 => number.wrapping_sub(1),
         _ => loop {
-            let other = random.next() as u16;
+            let other = random.number() as u16;
             if other != number {
                 break other;
             }
