@@ -117,14 +117,62 @@ fn defeaters_are_those_by_definition() {
     }
 }
 
+/// The conditions of Definition 6, each read off directly over the whole line.
+#[derive(Clone, Copy, Debug, PartialEq, Eq, PartialOrd, Ord)]
+enum Condition {
+    EvenConcordant,
+    OddConcordant,
+    NoSubArgument,
+    BlockingAnsweredProperly,
+}
+
+fn violated_by_definition(line: &[Step], analysis: &Analysis) -> Vec<Condition> {
+    let concordant = |parity: usize| {
+        let mut together = 0;
+        for (position, step) in line.iter().enumerate() {
+            if position % 2 == parity {
+                together |= step.argument.mask;
+            }
+        }
+        !contradictory(&analysis.program.rules_with(together), &[])
+    };
+    let mut sub_argument = false;
+    let mut blocking_twice = false;
+    for later in 0..line.len() {
+        for earlier in 0..later {
+            let (one, other) = (line[later].argument.mask, line[earlier].argument.mask);
+            sub_argument |= one | other == other;
+        }
+        if later > 0 && line[later - 1].defeat == Some(Defeat::Blocking) {
+            blocking_twice |= line[later].defeat != Some(Defeat::Proper);
+        }
+    }
+    let mut violated = Vec::new();
+    for (condition, holds) in [
+        (Condition::EvenConcordant, concordant(0)),
+        (Condition::OddConcordant, concordant(1)),
+        (Condition::NoSubArgument, !sub_argument),
+        (Condition::BlockingAnsweredProperly, !blocking_twice),
+    ] {
+        if !holds {
+            violated.push(condition);
+        }
+    }
+    violated
+}
+
+/// How often a condition was the only one that kept a defeater out.
+type Decisive = BTreeMap<Condition, usize>;
+
 /// Every node's children are all defeaters that keep the whole line acceptable, in list order,
 /// each followed by its own subtree; and the marks are those of Definition 8.
 #[test]
 fn forests_are_trees_by_definition() {
     let mut nodes_seen = 0;
-    for analysis in small_analyses(400) {
+    let mut decisive = Decisive::new();
+    for analysis in small_analyses(600) {
         for literal in (0..2 * analysis.program.atoms as u8).map(Literal::new) {
-            let Some(forest) = Forest::of(literal, &analysis, 400) else {
+            let Some(forest) = Forest::of(literal, &analysis, 300) else {
                 continue;
             };
             let roots: Vec<usize> = forest
@@ -135,31 +183,46 @@ fn forests_are_trees_by_definition() {
                 .collect();
             assert_eq!(roots, analysis.roots_of_forest(literal));
             for number in 0..forest.nodes.len() {
-                check_node(number, &forest, &analysis);
+                check_node(number, &forest, &analysis, &mut decisive);
                 nodes_seen += 1;
             }
             check_preorder(&forest);
         }
     }
     assert!(nodes_seen > 5_000, "only {nodes_seen}");
+    println!("{decisive:?}");
+    for condition in [
+        Condition::EvenConcordant,
+        Condition::OddConcordant,
+        Condition::NoSubArgument,
+        Condition::BlockingAnsweredProperly,
+    ] {
+        let times = decisive.get(&condition).copied().unwrap_or(0);
+        assert!(times >= 20, "{condition:?} was decisive {times} times");
+    }
 }
 
-fn check_node(number: usize, forest: &Forest, analysis: &Analysis) {
+fn check_node(number: usize, forest: &Forest, analysis: &Analysis, decisive: &mut Decisive) {
     let line = line_to(number, &forest.nodes, analysis);
     assert!(acceptable(&line, &analysis.derived_by));
-    let expected: Vec<(usize, Option<Defeat>)> = analysis
-        .defeaters_of(forest.nodes[number].argument)
-        .iter()
-        .filter(|&&(argument, defeat)| {
-            let mut longer = line.clone();
-            longer.push(Step {
-                argument: analysis.arguments[argument],
-                defeat: Some(defeat),
-            });
-            acceptable(&longer, &analysis.derived_by)
-        })
-        .map(|&(argument, defeat)| (argument, Some(defeat)))
-        .collect();
+    let mut expected: Vec<(usize, Option<Defeat>)> = Vec::new();
+    for &(argument, defeat) in analysis.defeaters_of(forest.nodes[number].argument).iter() {
+        let mut longer = line.clone();
+        longer.push(Step {
+            argument: analysis.arguments[argument],
+            defeat: Some(defeat),
+        });
+        let violated = violated_by_definition(&longer, analysis);
+        assert_eq!(
+            acceptable(&longer, &analysis.derived_by),
+            violated.is_empty()
+        );
+        match violated[..] {
+            [] => expected.push((argument, Some(defeat))),
+            [only] => *decisive.entry(only).or_default() += 1,
+            _ => {}
+        }
+    }
     let children: Vec<usize> = (0..forest.nodes.len())
         .filter(|&child| forest.nodes[child].parent == Some(number))
         .collect();

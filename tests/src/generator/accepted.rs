@@ -244,6 +244,21 @@ fn contested(random: &mut Random, most_per_side: usize) -> Case {
             }
         }
     }
+    // Members of one side that don't go together make concordance matter.
+    if random.chance(60) {
+        for _ in 0..random.between(1, 3) {
+            let side = &sides[random.below(2)];
+            let two = random.sample(side, 2);
+            let rule = RuleText {
+                defeasible: false,
+                head: two[1] ^ 1,
+                body: vec![two[0]],
+            };
+            if supply.take(&rule) {
+                rules.push(rule);
+            }
+        }
+    }
     heads.extend(sides.concat());
     heads.extend([at_stake, at_stake ^ 1]);
     let shape = Shape {
