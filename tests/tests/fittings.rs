@@ -88,6 +88,18 @@ fn l_keeps_both_arguments() {
     assert_eq!(arguments[..4], [0, 128 + 2, 2 * 128 + 4, 5 * 128 + 4]);
 }
 
+/// The rule on odd positions by itself decides here. Under the root `d 4<0` stands the blocking
+/// `d 5<0`, under it the proper `d 3<0`, once for 3 and once for 4. Against these speaks only
+/// `d 4<0` with `d 2<4`, which does not go together with `d 5<0`, so they stay undefeated and
+/// so does the root. The trees have 2, 4 and 4 nodes. Without the rule on odd positions both
+/// would be defeated, and the answer would be UNDECIDED with 12 nodes.
+#[test]
+fn objectors_have_to_go_together() {
+    let program = "0; d 2<4; d 5<0; d 3<0; d 4<0; 4<3; (3,2)";
+    assert_eq!(ask(program, 4, 4096), (Code::Yes, 2 + 4 + 4));
+    assert_eq!(ask(program, 5, 4096), (Code::No, 4 + 2 + 4));
+}
+
 #[test]
 fn t_decides_none_of_its_three() {
     for literal in [2, 4, 6] {

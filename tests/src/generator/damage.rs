@@ -230,22 +230,25 @@ impl Layout {
     /// and otherwise no 17th.
     fn kinds(random: &mut Random, plan: &Plan, slots: &[usize], rules: usize) -> Vec<bool> {
         let mut defeasible = vec![false; rules];
-        let ninth = plan.rule_slots.iter().position(|s| s.contains(&9));
+        let seventeenth = plan.rule_slots.iter().position(|s| s.contains(&9));
         for (slot, causes) in plan.rule_slots.iter().enumerate() {
             let must = causes.contains(&8) || causes.contains(&9);
-            let may = ninth.is_none_or(|ninth| slot > ninth);
+            let may = seventeenth.is_none_or(|seventeenth| slot > seventeenth);
             defeasible[slots[slot]] = must || may && random.chance(50);
         }
         let plain = |range: std::ops::Range<usize>| -> Vec<usize> {
             range.filter(|number| !slots.contains(number)).collect()
         };
         let in_slots = defeasible.iter().filter(|&&d| d).count();
-        if let Some(ninth) = ninth {
-            let earlier_slots = slots[..ninth].iter().filter(|&&s| defeasible[s]).count();
-            for number in random.sample(&plain(0..slots[ninth]), 16 - earlier_slots) {
+        if let Some(seventeenth) = seventeenth {
+            let earlier_slots = slots[..seventeenth]
+                .iter()
+                .filter(|&&s| defeasible[s])
+                .count();
+            for number in random.sample(&plain(0..slots[seventeenth]), 16 - earlier_slots) {
                 defeasible[number] = true;
             }
-            for number in plain(slots[ninth]..rules) {
+            for number in plain(slots[seventeenth]..rules) {
                 defeasible[number] = random.chance(30);
             }
         } else {
