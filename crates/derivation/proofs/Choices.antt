@@ -181,9 +181,10 @@ module _ (rules : List Rule) where
       by-bit : Chosen f 0 rules r → List·Memᴰ r (Π-with g rules) ⊎ (r ≡ ruleAt rules i)
       by-bit c = go (ℕ-discrete (bitOf rules (c .at)) (bitOf rules i))
         where
+          its-kind : isDefeasible (ruleAt rules (c .at) .kind) ≡ true
+          its-kind = ap (λ (x : Rule). isDefeasible (x .kind)) (c .is) ∙ c .defeasibly
+
           go : Dec (bitOf rules (c .at) ≡ bitOf rules i) → List·Memᴰ r (Π-with g rules) ⊎ (r ≡ ruleAt rules i)
-          go (yes e) =
-              let d₀ : isDefeasible (ruleAt rules (c .at) .kind) ≡ true = ap (λ (x : Rule). isDefeasible (x .kind)) (c .is) ∙ c .defeasibly in
-              inr (sym (c .is) ∙ ap (ruleAt rules) (bitOf-injective rules (c .at) i (c .inside) d₀ h d e))
+          go (yes e) = inr (sym (c .is) ∙ ap (ruleAt rules) (bitOf-injective rules (c .at) i (c .inside) its-kind h d e))
           go (no n) =
               inl (Memᴰ·cast (sym (c .is)) (chosen-at g 0 rules (c .at) (c .inside) (w (bitOf rules (c .at)) n (c .chosen))))

@@ -10,12 +10,12 @@ use Rattle.literals.specs.Sets.{has, insert, insertAll, within, clash}
 use Rattle.literals.proofs.Bits.{digit-cases}
 use Rattle.literals.proofs.Members.{has-insert-same, insert-cases, insert-keeps}
 use Rattle.literals.proofs.Lists.{insertAll-below}
-use Rattle.literals.proofs.Within.{each-within, within-refl, within-antisym}
+use Rattle.literals.proofs.Within.{each-within, within-refl, within-antisym, within-empty, insert-within}
 use Rattle.literals.proofs.Clashes.{Pair, clash-pair, literals-clash, clash-mono}
 use Rattle.program.specs.Program.{Rule, fact, Π}
 use Rattle.derivation.specs.Derivation.{complement, Contradictory, HeadsBelow}
-use Rattle.derivation.specs.Closure.{closure, contradictory, excludes}
-use Rattle.derivation.proofs.Closures.{closure-mono, closure-below}
+use Rattle.derivation.specs.Closure.{closure, derives, contradictory, excludes}
+use Rattle.derivation.proofs.Closures.{closure-mono, closure-below, closure-cut}
 use Rattle.derivation.proofs.Chains.{closure-derives, derives-closure}
 use Rattle.derivation.proofs.Choices.{Π-with-rules}
 
@@ -104,3 +104,17 @@ excludes-sym rules a b =
         (λ q. ap (has (insert (insert 0 b) a)) q ∙ has-insert-same (insert 0 b) a) (insert-cases 0 a k h))
         (λ q. ap (has (insert (insert 0 b) a)) q ∙ insert-keeps (insert 0 b) a b (has-insert-same 0 b))
         (insert-cases (insert 0 a) b k e))
+
+-- literals that exclude each other are not both derived where Π is and no contradiction is
+pub excludes-derived : (rules more : List Rule) → ((r : Rule) → List·Memᴰ r (Π rules) → List·Memᴰ r more) → (a b : ℕ)
+    → derives more a ≡ true → derives more b ≡ true → excludes rules a b ≡ true → contradictory more ≡ true
+excludes-derived rules more sub a b p q =
+    clash-mono 64 (closure (Π rules) given) (closure more 0)
+    (subst (λ (s : ℕ). within (closure (Π rules) given) s ≡ true) (closure-cut more 0 given (within-empty given) both)
+    (closure-mono (Π rules) more sub given given (within-refl given)))
+  where
+    given : ℕ
+    given = insert (insert 0 a) b
+
+    both : within given (closure more 0) ≡ true
+    both = insert-within (insert 0 a) b (closure more 0) (insert-within 0 a (closure more 0) (within-empty (closure more 0)) p) q
