@@ -10,30 +10,30 @@ use Rattle.literals.specs.Words.{joined}
 use Rattle.program.specs.Program.{Kind, strict, defeasible, Rule, Program, isDefeasible, defeasibles, bitOf, ruleAt, beaten}
 
 -- four words a rule: its head, its body as a set in two words, its need
-unfoldable pub headAt : List ℕ → ℕ → ℕ
+abbrev pub headAt : List ℕ → ℕ → ℕ
 headAt t i = getD t (4 * i) 0
 
-unfoldable pub bodyAt : List ℕ → ℕ → ℕ
+abbrev pub bodyAt : List ℕ → ℕ → ℕ
 bodyAt t i = joined (getD t (4 * i + 2) 0) (getD t (4 * i + 1) 0)
 
-unfoldable pub needAt : List ℕ → ℕ → ℕ
+abbrev pub needAt : List ℕ → ℕ → ℕ
 needAt t i = getD t (4 * i + 3) 0
 
 -- from word 384 on, for each bit the number of its rule; from word 400 on, the mask of those that it beats
-unfoldable pub ruleOfBit : List ℕ → ℕ → ℕ
+abbrev pub ruleOfBit : List ℕ → ℕ → ℕ
 ruleOfBit t b = getD t (384 + b) 0
 
-unfoldable pub beatenAt : List ℕ → ℕ → ℕ
+abbrev pub beatenAt : List ℕ → ℕ → ℕ
 beatenAt t b = getD t (400 + b) 0
 
 -- words 416 to 418: how many rules, how many defeasible ones, how many atoms
-unfoldable pub ruleCount : List ℕ → ℕ
+abbrev pub ruleCount : List ℕ → ℕ
 ruleCount t = getD t 416 0
 
-unfoldable pub bitCount : List ℕ → ℕ
+abbrev pub bitCount : List ℕ → ℕ
 bitCount t = getD t 417 0
 
-unfoldable pub atomCount : List ℕ → ℕ
+abbrev pub atomCount : List ℕ → ℕ
 atomCount t = getD t 418 0
 
 -- the bits that a rule needs chosen: none if it is strict, else its own, b

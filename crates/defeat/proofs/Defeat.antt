@@ -1,0 +1,101 @@
+-- The computed defeaters are the published ones, and of two arguments that exclude each other one defeats the other.
+-- Assumes nothing.
+use mathlib.Core.Bool.{not, _&&_}
+use mathlib.Core.List.{List·Memᴰ}
+use mathlib.Core.Logic.{_⊎_, inl, inr}
+use Rattle.lists.specs.Decides.{Decides}
+use Rattle.lists.proofs.Lists.{filter-intro, filter-found}
+use Rattle.lists.proofs.Decides.{decides-known, decides-not, decides-iff, decides-and, decides-any}
+use Rattle.defeat.specs.Frame.{Frame}
+use Rattle.defeat.specs.Defeat.{AttacksAt, ProperDefeater, BlockingDefeater, Defeater}
+use Rattle.defeat.specs.Tests.{Tests, attacked, proper, neither, blocking}
+use Rattle.defeat.proofs.Laws.{Laws}
+use Rattle.defeat.proofs.Renders.{Renders}
+
+-- ---- the tests
+
+module _ {A : Type 0} {F : Frame A} {t : Tests A} (R : Renders F t)
+    (x y : A) (ax : F .Argument x) (ay : F .Argument y) where
+  pub attacked-found : {z : A} → List·Memᴰ z (attacked t x y) → AttacksAt F x y z
+  unfolding attacked
+  attacked-found {z} i =
+      let f = filter-found (λ z. t .sub z y && t .excludes x z) (t .arguments) i in
+      let az = R .argument z .1 (f .0) in
+      let k = decides-and (R .sub z y az ay) (R .excludes x z ax az) .says (f .1) in
+      record { argument = az; sub = k .0; excludes = k .1 }
+
+  pub attacked-intro : {z : A} → AttacksAt F x y z → List·Memᴰ z (attacked t x y)
+  unfolding attacked
+  attacked-intro {z} a =
+      let az = a .argument in
+      let k = decides-and (R .sub z y az ay) (R .excludes x z ax az) .passes (a .sub, a .excludes) in
+      filter-intro (λ z. t .sub z y && t .excludes x z) (t .arguments) (R .argument z .0 az) k
+
+  pub proper-renders : Decides (proper t x y) (ProperDefeater F x y)
+  unfolding proper
+  proper-renders = decides-iff
+      (λ r. record { at = r .0; attacks = attacked-found (r .1); preferred = r .2 })
+      (λ p. (p .at, attacked-intro (p .attacks), p .preferred))
+      (decides-any (F .Preferred x) (t .preferred x) (attacked t x y)
+      (λ z i. R .preferred x z ax (attacked-found i .argument)))
+
+  -- neither x nor z is preferred
+  abbrev Neither : A → Type 0
+  Neither z = (¬ F .Preferred x z) × (¬ F .Preferred z x)
+
+  neither-renders : Decides (neither t x y) ((z : A) × List·Memᴰ z (attacked t x y) × Neither z)
+  unfolding neither
+  neither-renders = decides-any Neither (λ z. not (t .preferred x z) && not (t .preferred z x)) (attacked t x y)
+      (λ z i.
+      let az = attacked-found i .argument in
+      decides-and (decides-not (R .preferred x z ax az)) (decides-not (R .preferred z x az ax)))
+
+  pub blocking-renders : Decides (blocking t x y) (BlockingDefeater F x y)
+  unfolding blocking
+  blocking-renders = decides-iff
+      (λ r. record {
+        otherwise = r .0;
+        at = r .1 .0;
+        attacks = attacked-found (r .1 .1);
+        not-preferred = r .1 .2 .0;
+        not-preferred-to = r .1 .2 .1;
+      })
+      (λ b. (b .otherwise, (b .at, attacked-intro (b .attacks), (b .not-preferred, b .not-preferred-to))))
+      (decides-and (decides-not proper-renders) neither-renders)
+
+  -- what `Laws` asks for, from the tests
+  pub proper-known : Dec (ProperDefeater F x y)
+  proper-known = decides-known proper-renders
+
+  pub preferred-known : Dec (F .Preferred x y)
+  preferred-known = decides-known (R .preferred x y ax ay)
+
+-- ---- of two arguments that exclude each other, one defeats the other
+
+-- a defeater attacks somewhere
+pub defeater-attacks : {A : Type 0} {F : Frame A} {x y : A} → Defeater F x y → (z : A) × AttacksAt F x y z
+defeater-attacks (inl p) = (p .at, p .attacks)
+defeater-attacks (inr b) = (b .at, b .attacks)
+
+module _ {A : Type 0} {F : Frame A} (L : Laws F) where
+  -- if y is preferred, it is a proper defeater; if not, x is a defeater of one kind or the other
+  pub defeater-either : (x y : A) → F .Argument x → F .Argument y → F .Excludes x y → Defeater F x y ⊎ Defeater F y x
+  defeater-either x y ax ay e = go (L .preferred-known y x ay ax) (L .proper-known x y ax ay)
+    where
+      -- each attacks the other at the whole of it
+      there : AttacksAt F x y y
+      there = record { argument = ay; sub = L .sub-refl y ay; excludes = e }
+
+      back : AttacksAt F y x x
+      back = record { argument = ax; sub = L .sub-refl x ax; excludes = L .excludes-sym x y e }
+
+      go : Dec (F .Preferred y x) → Dec (ProperDefeater F x y) → Defeater F x y ⊎ Defeater F y x
+      go (yes p) d = inr (inl (record { at = x; attacks = back; preferred = p }))
+      go (no n) (yes p) = inl (inl p)
+      go (no n) (no m) = inl (inr (record {
+        otherwise = m;
+        at = y;
+        attacks = there;
+        not-preferred = λ p. m (record { at = y; attacks = there; preferred = p });
+        not-preferred-to = n;
+      }))

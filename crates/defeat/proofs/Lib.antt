@@ -1,0 +1,5 @@
+-- What is asked of a frame and of its tests, and the theorems on defeat.
+pub mod Laws
+pub mod Renders
+pub mod Defeat
+pub mod Kind

@@ -1,0 +1,3 @@
+-- The laws of lists and tests.
+pub mod Lists
+pub mod Decides

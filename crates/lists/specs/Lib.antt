@@ -1,0 +1,3 @@
+-- What every crate's definitions are made of.
+pub mod Decides
+pub mod Lists

@@ -1,0 +1,41 @@
+-- The functions on lists that the computed definitions use. In `any` and `all` the rest is bound by a `let`, which
+-- waits: the first element that decides ends the test.
+use mathlib.Core.Bool.{Bool, true, false, _&&_, _||_}
+use mathlib.Core.List.{List, [], _∷_, List·Memᴰ}
+use Prim.Native.Nat.{ℕ, zero, suc}
+use lib.Dec.{eqb}
+
+module _ {A : Type 0} where
+  -- every element of l is one of m
+  abbrev pub Within : List A → List A → Type 0
+  Within l m = (x : A) → List·Memᴰ x l → List·Memᴰ x m
+
+  -- l, with x before it if the test passed
+  abbrev pub keep : Bool → A → List A → List A
+  keep true x l = x ∷ l
+  keep false x l = l
+
+  module _ (test : A → Bool) where
+    -- whether some element passes
+    abbrev pub any : List A → Bool
+    any [] = false
+    any (x ∷ l) = let rest = any l in test x || rest
+
+    -- whether every element passes
+    abbrev pub all : List A → Bool
+    all [] = true
+    all (x ∷ l) = let rest = all l in test x && rest
+
+    -- the elements that pass, in their order
+    abbrev pub filter : List A → List A
+    filter [] = []
+    filter (x ∷ l) = keep (test x) x (filter l)
+
+-- whether the number stands in the list
+abbrev pub member : ℕ → List ℕ → Bool
+member n = any (eqb n)
+
+-- the `count` numbers from `first` on
+abbrev pub upto : ℕ → ℕ → List ℕ
+upto first zero = []
+upto first (suc count) = first ∷ upto (suc first) count

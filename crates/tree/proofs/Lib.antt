@@ -1,0 +1,7 @@
+-- Theorems on lines, trees and marks.
+pub mod Line
+pub mod Reply
+pub mod Forest
+pub mod Entries
+pub mod Marks
+pub mod Exclusion

@@ -1,0 +1,1 @@
+// Argumentation lines, dialectical trees, marks. specs/ has the definitions, proofs/ the theorems about them.
