@@ -1,0 +1,6 @@
+-- The laws of arguments, by notion, for the crates above.
+pub mod MaskClosures
+pub mod Minimal
+pub mod Lists
+pub mod FreshSets
+pub mod SubArguments

@@ -1,0 +1,1 @@
+// The arguments of a program, and their list.

@@ -1,0 +1,6 @@
+-- The laws of derivation, by notion, for the crates above.
+pub mod Rounds
+pub mod Closures
+pub mod Chains
+pub mod Contradictions
+pub mod Choices

@@ -1,0 +1,3 @@
+-- What is derived: the definition by chains, and the closure that computes it.
+pub mod Derivation
+pub mod Closure

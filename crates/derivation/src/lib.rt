@@ -1,0 +1,1 @@
+// What a set of rules derives from given literals.
