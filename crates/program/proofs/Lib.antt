@@ -1,0 +1,4 @@
+-- The laws of programs and of the rule table, by notion, for the crates above.
+pub mod Numbers
+pub mod Stores
+pub mod Fillings
