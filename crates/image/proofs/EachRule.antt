@@ -1,0 +1,38 @@
+-- Rule by rule: what one rule's verdict says of all from it on. Assumes nothing.
+use mathlib.Core.Path.{_≡_, refl, sym, ap, ap₂, _∙_}
+use mathlib.Core.Bool.{Bool, true, false}
+use mathlib.Core.List.{List}
+use Prim.Native.Nat.{ℕ, zero, suc, _+_, _-_, _<_, _≤_}
+use native.Mathlib.Numerals.{add-one}
+use native.Mathlib.Nat.{le-refl}
+use native.Mathlib.Omega.{arith}
+use lib.Dec.{eqb}
+use Rattle.literals.specs.Sets.{choose}
+use Rattle.image.specs.declared.Verdict.{Verdict}
+use Rattle.image.specs.declared.Verdict.the-variants.{Accepted, Refused}
+use Rattle.image.specs.Layout.{atomsOf, partOf, kindByte}
+use Rattle.image.specs.Causes.{refuse, andThen, badRepeat, partVerdict, ruleVerdict, countKind, rulesVerdict}
+
+pub count-le : (kind before : ℕ) → countKind kind before ≤ suc before
+count-le kind before = go (eqb kind 1)
+  where
+    go : (b : Bool) → choose b (suc before) before ≤ suc before
+    go true = le-refl (suc before)
+    go false = omega arith
+
+module _ (s : List ℕ) (before i : ℕ) where
+  pub rule-by : (v : Verdict) (b : Bool) → partVerdict (partOf s i) (atomsOf s) before i ≡ v → badRepeat s i ≡ b → ruleVerdict s before i ≡ andThen v (refuse b 10 i)
+  unfolding ruleVerdict
+  rule-by v b p q = ap₂ (λ (x : Verdict) (y : Bool). andThen x (refuse y 10 i)) p q
+
+  -- the rules from rule i to rule n
+  module _ (n : ℕ) (more : i < n) where
+    pub rules-next : (v : Verdict) → ruleVerdict s before i ≡ v → rulesVerdict s before i (n - i) ≡ andThen v (rulesVerdict s (countKind (kindByte (partOf s i)) before) (i + 1) (n - (i + 1)))
+    unfolding rulesVerdict
+    rules-next v e =
+        let z : n - i ≡ suc (n - (i + 1)) = omega arith in
+        rw (z, add-one) (ap (λ (w : Verdict). andThen w (rulesVerdict s (countKind (kindByte (partOf s i)) before) (suc i) (n - suc i))) e)
+
+  pub rules-end : (n : ℕ) → n ≤ i → rulesVerdict s before i (n - i) ≡ Accepted
+  unfolding rulesVerdict
+  rules-end n h = let z : n - i ≡ 0 = omega arith in rw z refl

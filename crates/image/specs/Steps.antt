@@ -1,0 +1,50 @@
+-- What each step of the reader hands back: what it read with the next cursor, or that it cannot. Assumes nothing.
+use mathlib.Core.Bool.{Bool, true, false}
+use mathlib.Core.List.{List}
+use mathlib.Core.Path.{_≡_}
+use Prim.Native.Nat.{ℕ, _+_, _*_, _<_, _≤_}
+use lib.ListN.{length}
+use lib.Dec.{leb}
+use Rattle.literals.specs.Sets.{choose}
+use Rattle.image.specs.declared.Verdict.{Verdict}
+use Rattle.image.specs.declared.Verdict.the-variants.{Accepted, Refused}
+use Rattle.image.specs.declared.cursor.Cursor.{Cursor}
+use Rattle.image.specs.declared.cursor.Number.{Number}
+use Rattle.image.specs.declared.cursor.Number.the-variants as number
+use Rattle.image.specs.declared.cursor.Entry.{Entry}
+use Rattle.image.specs.declared.cursor.Entry.the-variants as entry
+use Rattle.image.specs.declared.header.Counts.{Counts}
+use Rattle.image.specs.declared.header.Header.{Header}
+use Rattle.image.specs.declared.header.Header.the-variants as header
+use Rattle.image.specs.Layout.{numberAt, atomsOf, rulesOf, pairsOf, offsetOf, sizeOf}
+use Rattle.image.specs.Causes.{andThen, refuse, badLength, badCounts}
+
+abbrev pub cursorAt : ℕ → Cursor
+cursorAt n = record { at = n }
+
+-- the two-byte number at a place with the place after it, or that the image ends before that
+unfoldable pub numberFrom : List ℕ → ℕ → Number
+numberFrom s at = choose (leb (at + 2) (length s)) (number.Read (numberAt s at) (cursorAt (at + 2))) number.Past
+
+-- the same for an offset and the length after it
+unfoldable pub entryFrom : List ℕ → ℕ → Entry
+entryFrom s at =
+    choose (leb (at + 4) (length s)) (entry.Read (numberAt s at) (numberAt s (at + 2)) (cursorAt (at + 4))) entry.Past
+
+-- the counts and the cursor after them, or the first of causes 1 and 2 that applies
+abbrev pub headerBy : Verdict → List ℕ → Header
+headerBy Accepted s = header.Read (record { atoms = atomsOf s; rules = rulesOf s; pairs = pairsOf s }) (cursorAt 8)
+headerBy (Refused n p) s = header.Refused n p
+
+unfoldable pub headerOf : List ℕ → Header
+headerOf s = headerBy (andThen (refuse (badLength s) 1 0) (refuse (badCounts s) 2 0)) s
+
+-- the directory of n rules fits, and each of its parts lies within the image
+pub record Parts (s : List ℕ) (n : ℕ) : Type 0 where
+  pub fits : 12 + 4 * n ≤ length s
+  pub inside : (i : ℕ) → i ≤ n → offsetOf s i + sizeOf s i ≤ length s
+
+-- part i lies from one place of the image to another
+pub record Located (s : List ℕ) (i from to : ℕ) : Type 0 where
+  pub from-is : from ≡ offsetOf s i
+  pub to-is : to ≡ offsetOf s i + sizeOf s i

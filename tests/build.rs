@@ -1,0 +1,14 @@
+//! Links the native library for `differ` only when FOQTIREL_LIB_DIR names its directory.
+
+fn main() {
+    println!("cargo:rustc-check-cfg=cfg(probe)");
+    println!("cargo:rerun-if-env-changed=FOQTIREL_LIB_DIR");
+    println!("cargo:rerun-if-changed=build.rs");
+    if let Ok(directory) = std::env::var("FOQTIREL_LIB_DIR") {
+        if !directory.is_empty() {
+            println!("cargo:rustc-cfg=probe");
+            println!("cargo:rustc-link-search=native={directory}");
+            println!("cargo:rerun-if-changed={directory}/libprobe.a");
+        }
+    }
+}

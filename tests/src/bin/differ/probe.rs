@@ -1,0 +1,32 @@
+//! The native library's exports behind safe functions.
+
+use foqtirel_tests::generator::Verdict;
+
+/// True if the library's check goes on to cause 14. As long as it doesn't, an image whose only
+/// fault is 14 counts as accepted there.
+pub const CHECKS_CONTRADICTION: bool = false;
+
+/// True if the library was linked.
+pub const LINKED: bool = cfg!(probe);
+
+#[cfg(probe)]
+mod native {
+    #[link(name = "probe", kind = "static")]
+    extern "C" {
+        /// 0 for an accepted image, otherwise number × 2^32 + place.
+        pub fn foqtirel_probe_check(image: *const u8, length: usize) -> u64;
+    }
+}
+
+/// The library's opinion of an image.
+#[cfg(probe)]
+pub fn check(image: &[u8]) -> Option<Verdict> {
+    // SAFETY: the library reads `length` bytes from `image` and keeps nothing.
+    let packed = unsafe { native::foqtirel_probe_check(image.as_ptr(), image.len()) };
+    Some(((packed >> 32) as u32, packed as u32))
+}
+
+#[cfg(not(probe))]
+pub fn check(_image: &[u8]) -> Option<Verdict> {
+    None
+}

@@ -1,0 +1,5 @@
+//! The warrant engine once more, written slowly and literally from document 01 and from
+//! Definitions 1 to 9, with generators of images to run another implementation against.
+
+pub mod generator;
+pub mod reference;

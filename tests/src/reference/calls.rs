@@ -1,0 +1,152 @@
+//! The public calls with their results and their effect on the lent tables.
+
+use super::analysis::Analysis;
+use super::derivation::contradictory;
+use super::image::read_image;
+use super::literal::Literal;
+use super::refusal::{Cause, Refusal};
+use super::tree::{Forest, Mark, NodeEntry};
+
+/// The greatest budget, and the length of the tables the host program's call brings.
+pub const MOST_NODES: usize = 4096;
+
+/// The answers with their numbers.
+#[derive(Clone, Copy, Debug, PartialEq, Eq, PartialOrd, Ord)]
+pub enum Code {
+    Yes = 1,
+    No = 2,
+    Undecided = 3,
+    Unknown = 4,
+    Unfinished = 5,
+}
+
+impl Code {
+    pub fn number(self) -> u32 {
+        self as u32
+    }
+
+    pub fn word(self) -> &'static str {
+        match self {
+            Code::Yes => "YES",
+            Code::No => "NO",
+            Code::Undecided => "UNDECIDED",
+            Code::Unknown => "UNKNOWN",
+            Code::Unfinished => "UNFINISHED",
+        }
+    }
+}
+
+#[derive(Clone, Copy, Debug, PartialEq, Eq)]
+pub struct Answer {
+    pub code: Code,
+    pub nodes: usize,
+}
+
+/// Checks an image, causes 1 to 14.
+pub fn check(image: &[u8]) -> Result<(), Refusal> {
+    let program = read_image(image)?;
+    if contradictory(&program.strict_rules(), &[]) {
+        return Err(Refusal::whole(Cause::StrictContradiction));
+    }
+    Ok(())
+}
+
+/// Lists the arguments of an image; returns how many there are.
+pub fn list(image: &[u8], arguments: &mut [u32]) -> Result<usize, Refusal> {
+    Analysis::of_image(image)?.list(arguments)
+}
+
+/// Answers a literal of an image.
+pub fn query(
+    image: &[u8],
+    literal: u32,
+    budget: u32,
+    arguments: &mut [u32],
+    nodes: &mut [NodeEntry],
+) -> Result<Answer, Refusal> {
+    Analysis::of_image(image)?.query(literal, budget, arguments, nodes)
+}
+
+/// The call from the host program: code × 65,536 + nodes, or a bare refusal number.
+pub fn host_call(image: &[u8], literal: u32, budget: u32) -> u32 {
+    match Analysis::of_image(image) {
+        Ok(analysis) => analysis.host_call(literal, budget),
+        Err(refusal) => refusal.cause.number(),
+    }
+}
+
+/// The same calls on an image that was read before, for asking about many literals.
+impl Analysis {
+    pub fn list(&self, arguments: &mut [u32]) -> Result<usize, Refusal> {
+        let entries = self.entries();
+        if entries.len() > arguments.len() {
+            return Err(Refusal::whole(Cause::ArgumentTable));
+        }
+        arguments[..entries.len()].copy_from_slice(&entries);
+        Ok(entries.len())
+    }
+
+    pub fn query(
+        &self,
+        literal: u32,
+        budget: u32,
+        arguments: &mut [u32],
+        nodes: &mut [NodeEntry],
+    ) -> Result<Answer, Refusal> {
+        if literal >= u32::from(Literal::END) {
+            return Err(Refusal::whole(Cause::QueryLiteral));
+        }
+        let budget = budget as usize;
+        if budget > MOST_NODES {
+            return Err(Refusal::whole(Cause::Budget));
+        }
+        if nodes.len() < budget {
+            return Err(Refusal::whole(Cause::NodeTable));
+        }
+        self.list(arguments)?;
+        Ok(self.answer(Literal::new(literal as u8), budget, nodes))
+    }
+
+    fn answer(&self, literal: Literal, budget: usize, nodes: &mut [NodeEntry]) -> Answer {
+        if !self.program.mentions_atom_of(literal) {
+            return Answer {
+                code: Code::Unknown,
+                nodes: 0,
+            };
+        }
+        let Some(forest) = Forest::of(literal, self, budget) else {
+            nodes[..budget].fill(NodeEntry::default());
+            return Answer {
+                code: Code::Unfinished,
+                nodes: budget,
+            };
+        };
+        let entries = forest.entries();
+        nodes[..entries.len()].copy_from_slice(&entries);
+        let some_root_undefeated = |wanted: Literal| {
+            forest
+                .roots_for(wanted, self)
+                .any(|root| forest.marks[root] == Mark::Undefeated)
+        };
+        let code = if some_root_undefeated(literal) {
+            Code::Yes
+        } else if some_root_undefeated(literal.complement()) {
+            Code::No
+        } else {
+            Code::Undecided
+        };
+        Answer {
+            code,
+            nodes: entries.len(),
+        }
+    }
+
+    pub fn host_call(&self, literal: u32, budget: u32) -> u32 {
+        let mut arguments = vec![0; MOST_NODES];
+        let mut nodes = vec![NodeEntry::default(); MOST_NODES];
+        match self.query(literal, budget, &mut arguments, &mut nodes) {
+            Ok(answer) => answer.code.number() * 65_536 + answer.nodes as u32,
+            Err(refusal) => refusal.cause.number(),
+        }
+    }
+}

@@ -1,0 +1,24 @@
+//! Document 01 in the words of its definitions. Nothing here is meant to be fast.
+
+pub mod advise;
+pub mod analysis;
+pub mod argument;
+pub mod attack;
+pub mod calls;
+pub mod derivation;
+pub mod image;
+pub mod line;
+pub mod literal;
+pub mod program;
+pub mod refusal;
+pub mod tree;
+
+pub use advise::advise;
+pub use analysis::Analysis;
+pub use argument::Argument;
+pub use calls::{check, host_call, list, query, Answer, Code};
+pub use image::read_image;
+pub use literal::Literal;
+pub use program::{Kind, Program, Rule};
+pub use refusal::{Cause, Refusal};
+pub use tree::NodeEntry;

@@ -1,0 +1,50 @@
+//! Causes for turning an image or a call away.
+
+/// The causes of document 01 with its numbers.
+#[derive(Clone, Copy, Debug, PartialEq, Eq, PartialOrd, Ord)]
+pub enum Cause {
+    ImageLength = 1,
+    Header = 2,
+    Directory = 3,
+    RuleLength = 4,
+    RuleKind = 5,
+    LiteralRange = 6,
+    BodyOrder = 7,
+    DefeasibleWithoutBody = 8,
+    TooManyDefeasible = 9,
+    RepeatedRule = 10,
+    LastPartLength = 11,
+    PairNames = 12,
+    PairOrder = 13,
+    StrictContradiction = 14,
+    QueryLiteral = 20,
+    Budget = 21,
+    NodeTable = 22,
+    ArgumentTable = 23,
+}
+
+impl Cause {
+    pub fn number(self) -> u32 {
+        self as u32
+    }
+}
+
+/// What a refusing call returns.
+#[derive(Clone, Copy, Debug, PartialEq, Eq)]
+pub struct Refusal {
+    pub cause: Cause,
+    /// The rule or pair number for causes 4 to 10, 12 and 13, otherwise 0.
+    pub place: usize,
+}
+
+impl Refusal {
+    /// A refusal with a place of its own.
+    pub fn at(cause: Cause, place: usize) -> Refusal {
+        Refusal { cause, place }
+    }
+
+    /// A refusal of the whole image or call.
+    pub fn whole(cause: Cause) -> Refusal {
+        Refusal { cause, place: 0 }
+    }
+}
