@@ -2,3 +2,4 @@
 pub mod Frame
 pub mod Defeat
 pub mod Tests
+pub mod Preference

@@ -6,9 +6,10 @@ use mathlib.Core.Bool.{true, false≢true}
 use Prim.Native.Nat.{ℕ, zero, suc, _<_, _≤_}
 use native.Mathlib.Decide.{decLt}
 use native.Mathlib.Omega.{arith}
-use lib.ListN.{length, take}
+use lib.ListN.{take}
 use lib.Seq.{take-length}
-use Rattle.program.specs.Program.{Kind, strict, defeasible, Rule, isDefeasible, nextBit, defeasiblesFrom, defeasibles, bitOf, ruleAt}
+use Rattle.program.specs.Program.{Kind, strict, defeasible, Rule, isDefeasible, nextBit, ruleAt}
+use Rattle.program.specs.Program.{defeasiblesFrom, defeasibles, bitOf}
 use Rattle.program.specs.Limits.{DefeasibleAt}
 
 -- ---- the kind of a rule, as a test and as a statement

@@ -1,8 +1,7 @@
--- The limits that document 01 sets to a program. Every image that its causes 1 to 13 do not refuse holds a program within
--- them. Assumes nothing.
+-- The limits that document 01 sets to a program, as its causes 1 to 13 enforce them on an image. Assumes nothing.
 use mathlib.Core.Path.{_≡_}
 use mathlib.Core.List.{List, List·Memᴰ}
-use Prim.Native.Nat.{ℕ, _*_, _<_, _≤_}
+use Prim.Native.Nat.{ℕ, _*_, _^_, _<_, _≤_}
 use lib.ListN.{length}
 use Rattle.program.specs.Program.{Rule, Program, defeasible, defeasibles, ruleAt}
 
@@ -11,7 +10,7 @@ pub record DefeasibleAt (rules : List Rule) (i : ℕ) : Type 0 where
   pub there : i < length rules
   pub kind-is : ruleAt rules i .kind ≡ defeasible
 
--- "A pair naming a rule that is absent or not defeasible, or one rule twice" is refused
+-- "naming a rule that is absent or not defeasible, or one rule twice": the pair of a and b does neither
 pub record PairOf (rules : List Rule) (a b : ℕ) : Type 0 where
   pub first : DefeasibleAt rules a
   pub second : DefeasibleAt rules b
@@ -29,3 +28,7 @@ pub record Limits (p : Program) : Type 0 where
   pub bodies-below : (r : Rule) → List·Memᴰ r (p .rules) → (l : ℕ) → List·Memᴰ l (r .body) → l < 2 * p .atoms
   -- "A pair naming a rule that is absent or not defeasible, or one rule twice" is refused
   pub pairs-name : (a b : ℕ) → List·Memᴰ (a, b) (p .pairs) → PairOf (p .rules) a b
+
+-- "A set of defeasible rules is its mask, the sum of 2^bit": m is the mask of some of p's
+abbrev pub Mask : Program → ℕ → Type 0
+Mask p m = m < 2 ^ defeasibles (p .rules)
