@@ -2,7 +2,7 @@
 -- Assumes nothing.
 use mathlib.Core.Bool.{not, _&&_}
 use mathlib.Core.List.{List·Memᴰ}
-use mathlib.Core.Logic.{_⊎_, inl, inr}
+use mathlib.Core.Logic.{inl, inr}
 use Rattle.lists.specs.Decides.{Decides}
 use Rattle.lists.proofs.Lists.{filter-intro, filter-found}
 use Rattle.lists.proofs.Decides.{decides-not, decides-iff, decides-and, decides-any}

@@ -3,3 +3,4 @@ pub mod Laws
 pub mod Renders
 pub mod Defeat
 pub mod Kind
+pub mod OfProgram

@@ -1,4 +1,5 @@
--- Attack and defeat, as published and as computed.
+-- Attack and defeat, as published and as computed: of any frame, then of a program.
 pub mod Frame
 pub mod Defeat
 pub mod Tests
+pub mod OfProgram
