@@ -4,10 +4,10 @@ use mathlib.Core.Bool.{Bool, not}
 use mathlib.Core.List.{List, [], _∷_}
 use Prim.Native.Nat.{ℕ}
 use Rattle.lists.specs.Lists.{any}
-use Rattle.literals.specs.Sets.{has, insert, within, clashBelow}
-use Rattle.program.specs.Program.{Rule, Program, fact, chosenFrom, Π-with, Π}
+use Rattle.literals.specs.Sets.{has, within}
+use Rattle.program.specs.Program.{Rule, Program, fact, Π-with, Π}
 use Rattle.derivation.specs.Derivation.{Contradictory}
-use Rattle.derivation.specs.Closure.{closure, contradictory, excludes}
+use Rattle.derivation.specs.Closure.{contradictory, excludes}
 use Rattle.argument.specs.Argument.{Subset, Argument, maskOf, literalOf}
 use Rattle.argument.specs.List.{argumentList}
 use Rattle.defeat.specs.Frame.{Frame}
@@ -36,7 +36,6 @@ module _ (p : Program) where
   }
 
   unfoldable pub testsOf : (ℕ → ℕ → Bool) → Tests ℕ
-  unfolding argumentList has closure insert chosenFrom clashBelow
   testsOf preferred = record {
     arguments = argumentList (p .rules);
     sub = λ z y. within (maskOf z) (maskOf y);

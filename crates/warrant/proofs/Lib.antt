@@ -1,0 +1,3 @@
+-- The theorems on answers and calls.
+pub mod Warrant
+pub mod Answers
