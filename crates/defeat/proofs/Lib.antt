@@ -3,4 +3,5 @@ pub mod Laws
 pub mod Renders
 pub mod Defeat
 pub mod Kind
+pub mod Preferences
 pub mod OfProgram

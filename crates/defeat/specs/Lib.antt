@@ -2,4 +2,5 @@
 pub mod Frame
 pub mod Defeat
 pub mod Tests
+pub mod Preference
 pub mod OfProgram
