@@ -1,14 +1,13 @@
 -- When each answer is given, both ways; and its number of nodes. Assumes nothing.
-use mathlib.Core.Path.{_≡_, refl, ap}
+use mathlib.Core.Path.{_≡_, refl}
 use mathlib.Core.Bool.{Bool, true, false, not}
-use mathlib.Core.List.{List}
 use mathlib.Core.Logic.{_↔_}
 use Prim.Native.Nat.{ℕ, _≤_, _<_}
 use native.Mathlib.Omega.{arith}
 use lib.ListN.{length}
-use lib.Dec.{T, T-not, not-T, ltb, ltb→lt, lt→ltb, nltb→le}
+use lib.Dec.{T, not-T, ltb, ltb→lt, lt→ltb, nltb→le}
 use Rattle.lists.specs.Decides.{Decides}
-use Rattle.lists.proofs.Decides.{decides-iff, decides-not}
+use Rattle.lists.proofs.Decides.{decides-not}
 use Rattle.program.specs.Program.{Program, Π}
 use Rattle.derivation.specs.Derivation.{complement, HeadsBelow}
 use Rattle.defeat.specs.Tests.{Tests}

@@ -1,3 +1,4 @@
 -- The theorems on answers and calls.
 pub mod Warrant
 pub mod Answers
+pub mod Fittings

@@ -10,6 +10,7 @@ use Rattle.program.specs.Program.{Rule, Program}
 use Rattle.derivation.specs.Derivation.{complement}
 use Rattle.argument.specs.Argument.{literalOf}
 use Rattle.defeat.specs.Tests.{Tests}
+use Rattle.defeat.specs.Preference.{preferredTest}
 use Rattle.defeat.specs.OfProgram.{testsOf}
 use Rattle.tree.specs.Forest.{Forest, size, forestOf, undefeatedRoot}
 use Rattle.tree.specs.Entries.{Entry, entries}
@@ -67,6 +68,13 @@ answerBy p preferred h budget =
     let t = testsOf p preferred in
     let n = nodeCount t h in
     answerOf (occurs p h) (ltb budget n) (warranted t h) (warranted t (complement h)) budget n
+
+-- at document 01's
+abbrev pub tests : Program → Tests ℕ
+tests p = testsOf p (preferredTest p)
+
+abbrev pub answer : Program → ℕ → ℕ → Answer
+answer p h budget = answerBy p (preferredTest p) h budget
 
 -- document 01's number for each answer: "1 YES", "2 NO", "3 UNDECIDED", "4 UNKNOWN", "5 UNFINISHED". A refusal is no
 -- answer and has none.
