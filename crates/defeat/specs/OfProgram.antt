@@ -20,6 +20,10 @@ inSome l b = any (λ x. has (maskOf x) b) l
 abbrev pub Π-all : List ℕ → List Rule → List Rule
 Π-all l rules = Π-with (inSome l) rules
 
+-- "Two literals exclude each other if Π with both added as facts is contradictory."
+abbrev pub Exclude : List Rule → ℕ → ℕ → Type 0
+Exclude rules a b = Contradictory (fact a ∷ fact b ∷ Π rules)
+
 module _ (p : Program) where
   abbrev pub frameOf : (ℕ → ℕ → Type 0) → Frame ℕ
   frameOf Preferred = record {
@@ -27,8 +31,8 @@ module _ (p : Program) where
     Argument = λ x. Argument (p .rules) (maskOf x) (literalOf x);
     -- "A sub-argument of (M, h) is any argument whose mask is a subset of M, M itself included."
     SubArgument = λ z y. Subset (maskOf z) (maskOf y);
-    -- "Two literals exclude each other if Π with both added as facts is contradictory."
-    Excludes = λ x z. Contradictory (fact (literalOf x) ∷ fact (literalOf z) ∷ Π (p .rules));
+    -- "if the literals of X and Z exclude each other"
+    Excludes = λ x z. Exclude (p .rules) (literalOf x) (literalOf z);
     -- "X is preferred over Z if .."
     Preferred = λ x z. Preferred (maskOf x) (maskOf z);
     -- "Π with all masks at even positions .. isn't contradictory, likewise for odd positions"

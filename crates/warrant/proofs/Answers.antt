@@ -178,7 +178,7 @@ module _ (p : Program) (heads : HeadsBelow 128 (p .rules)) (Preferred : ℕ → 
         λ r. by .1 (
           o .passes (occurs-complement (warranted-occurs (r .1))),
           v .passes (r .0),
-          u .passes (λ k. warranted-apart h (complement h) (complement-excludes (Π (p .rules)) h) k (r .1)),
+          u .passes (λ k. warranted-apart h (complement h) (complement-excludes (p .rules) h) k (r .1)),
           c .passes (r .1),
         ),
       )

@@ -18,7 +18,7 @@ use Rattle.derivation.proofs.Choices.{Π-with-rules}
 use Rattle.argument.specs.Argument.{maskOf, literalOf}
 use Rattle.defeat.specs.Frame.{Frame}
 use Rattle.defeat.specs.Tests.{Tests}
-use Rattle.defeat.specs.OfProgram.{frameOf, testsOf}
+use Rattle.defeat.specs.OfProgram.{Exclude, frameOf, testsOf}
 use Rattle.defeat.proofs.OfProgram.{frame-laws, frame-renders}
 use Rattle.defeat.proofs.Renders.{Renders}
 use Rattle.tree.specs.Marks.{UndefeatedRoot}
@@ -78,18 +78,18 @@ module _ {p : Program} {Preferred : ℕ → ℕ → Type 0} where
   warranted-occurs w =
       subst (Occurs p) (w .for-literal) (derived-occurs p (maskOf (w .root)) (literalOf (w .root)) (w .argument .derived))
 
-  pub warranted-apart : (h k : ℕ) → Contradictory (fact h ∷ fact k ∷ Π (p .rules))
+  pub warranted-apart : (h k : ℕ) → Exclude (p .rules) h k
       → WarrantedBy p Preferred h → WarrantedBy p Preferred k → ⊥
   warranted-apart h k e u v =
       exclusive-roots (frame-laws p Preferred) (u .root) (v .root) (u .argument) (v .argument)
       (rw (u .for-literal, v .for-literal) e) (u .marked-U) (v .marked-U)
 
 -- a literal and its complement exclude each other
-pub complement-excludes : (rules : List Rule) (h : ℕ) → Contradictory (fact h ∷ fact (complement h) ∷ rules)
+pub complement-excludes : (rules : List Rule) (h : ℕ) → Exclude rules h (complement h)
 complement-excludes rules h = (h, added h (List·Memᴰ·head refl), added (complement h) (List·Memᴰ·tail (List·Memᴰ·head refl)))
   where
     both : List Rule
-    both = fact h ∷ fact (complement h) ∷ rules
+    both = fact h ∷ fact (complement h) ∷ Π rules
 
     added : (l : ℕ) → List·Memᴰ (fact l) both → Derives both l
     added l i = derives-rule both (fact l) i (λ b n. absurd (List·Memᴰ·not-nil n))
