@@ -8,7 +8,7 @@ use lib.ListN.{length}
 use lib.Dec.{T, not-T, ltb, ltb→lt, lt→ltb, nltb→le}
 use Rattle.lists.specs.Decides.{Decides}
 use Rattle.lists.proofs.Decides.{decides-not}
-use Rattle.program.specs.Program.{Program, Π}
+use Rattle.program.specs.Program.{Program}
 use Rattle.derivation.specs.Derivation.{complement, HeadsBelow}
 use Rattle.defeat.specs.Tests.{Tests}
 use Rattle.defeat.specs.OfProgram.{testsOf}
@@ -57,6 +57,14 @@ module _ (b n : ℕ) where
   unfinished-by true false true m = (λ e. absurd (omega (arith, e)), λ h. absurd (h .1))
   unfinished-by true false false true = (λ e. absurd (omega (arith, e)), λ h. absurd (h .1))
   unfinished-by true false false false = (λ e. absurd (omega (arith, e)), λ h. absurd (h .1))
+
+  -- none is a refusal
+  code-by : (o v w m : Bool) → code o v w m ≡ 0 → ⊥
+  code-by false v w m e = omega arith
+  code-by true true w m e = omega arith
+  code-by true false true m e = omega arith
+  code-by true false false true e = omega arith
+  code-by true false false false e = omega arith
 
   -- no more nodes than the budget
   nodes-by : (o v w m : Bool) → (T (not v) → n ≤ b) → nodesOf (answerOf o v w m b n) ≤ b
@@ -122,6 +130,10 @@ module _ (p : Program) (preferred : ℕ → ℕ → Bool) (h b : ℕ) where
         λ e. let r = by .0 e in (o .says (r .0), v .says (r .1)),
         λ r. by .1 (o .passes (r .0), v .passes (r .1)),
       )
+
+  pub answer-not-refused : codeOf (answerBy p preferred h b) ≡ 0 → ⊥
+  unfolding answerBy
+  answer-not-refused = code-by b n (occurs p h) (ltb b n) w m
 
   pub answer-nodes-within : nodesOf (answerBy p preferred h b) ≤ b
   unfolding answerBy

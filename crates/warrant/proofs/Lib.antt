@@ -3,3 +3,4 @@ pub mod Warrant
 pub mod Answers
 pub mod Refusals
 pub mod Fittings
+pub mod Calls
