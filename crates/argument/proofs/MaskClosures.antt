@@ -1,6 +1,6 @@
 -- What Π with a mask derives, as the mask grows and shrinks. Assumes nothing.
-use mathlib.Core.Path.{_≡_, ap, _∙_}
-use mathlib.Core.Bool.{true, false, not}
+use mathlib.Core.Path.{_≡_, sym, ap, _∙_}
+use mathlib.Core.Bool.{true, false, not, false≢true}
 use mathlib.Core.List.{List, List·Memᴰ}
 use mathlib.Core.Logic.{inl, inr, ⊎-elim}
 use Prim.Native.Nat.{ℕ, _^_, _<_}
@@ -10,14 +10,14 @@ use borrow.Author.Tests.{ne-eqb}
 use Rattle.literals.specs.Sets.{has, hasAll, minus, within}
 use Rattle.literals.proofs.Tests.{and-intro}
 use Rattle.literals.proofs.Members.{has-minus-power}
-use Rattle.literals.proofs.Within.{within-each, within-refl, minus-within}
-use Rattle.program.specs.Program.{Rule, isDefeasible, bitOf, ruleAt, Π-mask}
+use Rattle.literals.proofs.Within.{within-each, within-refl, within-empty, minus-within}
+use Rattle.program.specs.Program.{Rule, isDefeasible, bitOf, ruleAt, Π-mask, Π}
 use Rattle.derivation.specs.Derivation.{Derives, HeadsBelow}
-use Rattle.derivation.specs.Closure.{contradictory}
-use Rattle.derivation.proofs.Closures.{closure-mono, closure-idle}
+use Rattle.derivation.specs.Closure.{closure, contradictory}
+use Rattle.derivation.proofs.Closures.{closure-mono, closure-idle, closure-given}
 use Rattle.derivation.proofs.Chains.{derives-mono}
 use Rattle.derivation.proofs.Contradictions.{contradictory-mono}
-use Rattle.derivation.proofs.Choices.{Π-with-mono, Π-with-rules, Π-with-but-one}
+use Rattle.derivation.proofs.Choices.{Π-with-mono, Π-with-rules, Π-with-cases, Π-with-but-one}
 use Rattle.argument.specs.Argument.{Subset}
 use Rattle.argument.specs.Fresh.{maskClosure}
 
@@ -59,3 +59,18 @@ module _ (rules : List Rule) where
 
       others : (k : ℕ) → (k ≡ b → ⊥) → has m k ≡ true → has less k ≡ true
       others k n h = has-minus-power m b k ∙ and-intro (has m k) (not (eqb k b)) h (ap not (ne-eqb k b n))
+
+  -- with the heads of the mask's rules given, the strict rules are enough
+  pub mask-closure-strict : (m u : ℕ) → within u (maskClosure rules m) ≡ true
+      → ((i : ℕ) → i < length rules → isDefeasible (ruleAt rules i .kind) ≡ true → has m (bitOf rules i) ≡ true
+      → has u (ruleAt rules i .head) ≡ true) → closure (Π rules) u ≡ maskClosure rules m
+  mask-closure-strict m u w heads =
+      closure-given (Π rules) (Π-mask m rules) (Π-with-mono rules (λ _. false) (has m) (λ b e. absurd (false≢true e))) 0 u
+      (within-empty u) w (λ r j. ⊎-elim (λ k. inl k) (λ c. inr (given r c)) (Π-with-cases rules (has m) r j))
+    where
+      given : (r : Rule)
+          → (i : ℕ) × (i < length rules) × (ruleAt rules i ≡ r) × (isDefeasible (r .kind) ≡ true) × (has m (bitOf rules i) ≡ true)
+          → has u (r .head) ≡ true
+      given r (i, l, e, d, c) =
+          ap (λ (x : Rule). has u (x .head)) (sym e)
+          ∙ heads i l (ap (λ (x : Rule). isDefeasible (x .kind)) e ∙ d) c

@@ -172,6 +172,14 @@ module _ (rules : List Rule) where
       (λ c. Memᴰ·cast (sym (c .is)) (chosen-at g 0 rules (c .at) (c .inside) (w (bitOf rules (c .at)) (c .chosen))))
       (chosen-cases f 0 rules r i)
 
+  -- a chosen rule is one of Π, or a defeasible one with a chosen bit
+  pub Π-with-cases : (f : ℕ → Bool) (r : Rule) → List·Memᴰ r (Π-with f rules)
+      → List·Memᴰ r (Π rules)
+      ⊎ ((i : ℕ) × (i < length rules) × (ruleAt rules i ≡ r) × (isDefeasible (r .kind) ≡ true) × (f (bitOf rules i) ≡ true))
+  Π-with-cases f r i =
+      ⊎-elim (λ s. inl (chosen-strict (λ _. false) 0 rules r (s .0) (s .1)))
+      (λ c. inr (c .at, c .inside, c .is, c .defeasibly, c .chosen)) (chosen-cases f 0 rules r i)
+
   -- a choice that lacks one bit of another lacks one rule of it at most
   pub Π-with-but-one : (f g : ℕ → Bool) (i : ℕ) → i < length rules → isDefeasible (ruleAt rules i .kind) ≡ true
       → ((b : ℕ) → (b ≡ bitOf rules i → ⊥) → f b ≡ true → g b ≡ true)

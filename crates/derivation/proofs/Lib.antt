@@ -4,3 +4,5 @@ pub mod Closures
 pub mod Chains
 pub mod Contradictions
 pub mod Choices
+pub mod Tables
+mod Turns

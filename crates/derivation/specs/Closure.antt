@@ -27,11 +27,14 @@ rounds (suc n) rules s =
     let t = round rules s in
     elim (eqb t s) [ true ↦ s | false ↦ rounds n rules t ]
 
--- what the rules derive where some literals are given: a round that adds something adds the head of one rule more, so that
--- there are no more of those than rules
+-- a round that adds something adds the head of one rule more, so that there are no more of those than rules
+abbrev pub enough : List Rule → ℕ
+enough rules = length rules
+
+-- what the rules derive where some literals are given
 unfoldable pub closure : List Rule → ℕ → ℕ
 unfolding rounds
-closure rules given = rounds (length rules) rules given
+closure rules given = rounds (enough rules) rules given
 
 -- "A literal is derived from a set of rules"
 abbrev pub derives : List Rule → ℕ → Bool

@@ -8,7 +8,9 @@ use native.Mathlib.Omega.{arith}
 use lib.ListN.{length, getD, drop, drop-of-length-le}
 use lib.Seq.{drop-cons}
 use lib.Dec.{ltb, eqb}
-use borrow.Author.Tests.{lt-ltb, le-ltb, eq-eqb, ne-eqb}
+use borrow.Author.Tests.{ltb-true, lt-ltb, le-ltb, eq-eqb, ne-eqb}
+use Rattle.literals.specs.Sets.{insert, insertAll}
+use Rattle.literals.proofs.Tests.{and-left, and-right}
 use Rattle.image.specs.Causes.{allBelow, ascending, sameBytes}
 
 -- the bytes from k on, where there is one
@@ -27,6 +29,27 @@ module _ (n : ℕ) (p : List ℕ) (k : ℕ) where
   pub below-stop : k < length p → n ≤ getD p k 0 → allBelow n (drop k p) ≡ false
   unfolding allBelow
   below-stop h l = ap (allBelow n) (drop-at p k h) ∙ ap (λ (t : Bool). t && allBelow n (drop (k + 1) p)) (le-ltb (getD p k 0) n l)
+
+-- and back: what passing the test says of byte k and of those after it
+module _ (n : ℕ) (p : List ℕ) (k : ℕ) (h : k < length p) (e : allBelow n (drop k p) ≡ true) where
+  opened : (ltb (getD p k 0) n && allBelow n (drop (k + 1) p)) ≡ true
+  unfolding allBelow
+  opened = sym (ap (allBelow n) (drop-at p k h)) ∙ e
+
+  pub below-here : getD p k 0 < n
+  below-here = ltb-true (getD p k 0) n (and-left (ltb (getD p k 0) n) _ opened)
+
+  pub below-after : allBelow n (drop (k + 1) p) ≡ true
+  below-after = and-right (ltb (getD p k 0) n) _ opened
+
+-- a body read byte by byte into a set
+pub insert-next : (s : ℕ) (p : List ℕ) (k : ℕ) → k < length p → insertAll s (drop k p) ≡ insertAll (insert s (getD p k 0)) (drop (k + 1) p)
+unfolding insertAll
+insert-next s p k h = ap (insertAll s) (drop-at p k h)
+
+pub insert-none : (s : ℕ) (p : List ℕ) (k : ℕ) → length p ≤ k → insertAll s (drop k p) ≡ s
+unfolding insertAll
+insert-none s p k h = ap (insertAll s) (drop-of-length-le p h)
 
 module _ (p : List ℕ) (k : ℕ) where
   pub ascending-end : length p ≤ k + 1 → ascending (drop k p) ≡ true

@@ -8,9 +8,11 @@ use native.Mathlib.Nat.{le-refl}
 use native.Mathlib.Omega.{arith}
 use lib.Dec.{eqb}
 use Rattle.literals.specs.Sets.{choose}
+use Rattle.program.specs.Program.{strict, defeasible, nextBit}
 use Rattle.image.specs.declared.Verdict.{Verdict}
 use Rattle.image.specs.declared.Verdict.the-variants.{Accepted, Refused}
 use Rattle.image.specs.Layout.{atomsOf, partOf, kindByte}
+use Rattle.image.specs.Reading.{ruleIn}
 use Rattle.image.specs.Causes.{refuse, andThen, badRepeat, partVerdict, ruleVerdict, countKind, rulesVerdict}
 
 pub count-le : (kind before : ℕ) → countKind kind before ≤ suc before
@@ -36,3 +38,19 @@ module _ (s : List ℕ) (before i : ℕ) where
   pub rules-end : (n : ℕ) → n ≤ i → rulesVerdict s before i (n - i) ≡ Accepted
   unfolding rulesVerdict
   rules-end n h = let z : n - i ≡ 0 = omega arith in rw z refl
+
+-- ---- a rule's kind, by its byte
+module _ (part : List ℕ) where
+  pub kind-defeasible : eqb (kindByte part) 1 ≡ true → ruleIn part .kind ≡ defeasible
+  kind-defeasible e = ap (λ (b : Bool). choose b defeasible strict) e
+
+  pub kind-strict : eqb (kindByte part) 1 ≡ false → ruleIn part .kind ≡ strict
+  kind-strict e = ap (λ (b : Bool). choose b defeasible strict) e
+
+  -- the count of defeasible rules goes with their bits
+  pub kind-counted : (before : ℕ) → countKind (kindByte part) before ≡ nextBit (ruleIn part .kind) before
+  kind-counted before = go (eqb (kindByte part) 1)
+    where
+      go : (b : Bool) → choose b (suc before) before ≡ nextBit (choose b defeasible strict) before
+      go true = refl
+      go false = refl

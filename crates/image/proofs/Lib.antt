@@ -7,3 +7,5 @@ pub mod EachRule
 pub mod EachPair
 pub mod Directory
 pub mod Whole
+pub mod Readings
+pub mod Accepted

@@ -3,6 +3,7 @@ ghost use mathlib.Core.Path.{_≡_};
 ghost use Rattle.image.specs.Causes.{verdict};
 
 pub mod cursor;
+mod fill;
 pub mod header;
 mod pairs;
 pub mod part;

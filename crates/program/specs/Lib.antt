@@ -1,5 +1,6 @@
--- What a program is, and the table of words that the engine works on.
+-- What a program is, its limits, and the table of words that the engine works on.
 pub mod Program
 pub mod Limits
 pub mod Table
 pub mod Store
+pub mod Filling

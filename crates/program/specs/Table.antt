@@ -55,3 +55,8 @@ pub record Holds (p : Program) (t : List ℕ) : Type 0 where
   pub row : (i : ℕ) → i < length (p .rules) → Row (ruleAt (p .rules) i) (bitOf (p .rules) i) t i
   pub rule-of : (i : ℕ) → i < length (p .rules) → isDefeasible (ruleAt (p .rules) i .kind) ≡ true → ruleOfBit t (bitOf (p .rules) i) ≡ i
   pub beaten-is : (i : ℕ) → i < length (p .rules) → isDefeasible (ruleAt (p .rules) i .kind) ≡ true → beatenAt t (bitOf (p .rules) i) ≡ beaten p i
+
+-- what the table of each accepted program is like: 96 rules at most, and the head of each is one of the 128 literals
+pub record Shaped (t : List ℕ) : Type 0 where
+  pub few : ruleCount t ≤ 96
+  pub literals : (i : ℕ) → i < ruleCount t → headAt t i < 128

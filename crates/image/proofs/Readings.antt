@@ -1,0 +1,45 @@
+-- The rules and pairs that an image holds, one by one. Assumes nothing.
+use mathlib.Core.Path.{_≡_, refl, sym, ap, subst, _∙_}
+use mathlib.Core.List.{List, [], _∷_, List·Memᴰ, List·Memᴰ·head, List·Memᴰ·tail, List·Memᴰ·cases-cons, List·Memᴰ·not-nil}
+use mathlib.Core.Logic.{_⊎_, inl, inr}
+use Prim.Native.Nat.{ℕ, zero, suc, _+_, _<_, _≤_}
+use native.Mathlib.Nat.{add-zero, add-suc}
+use native.Mathlib.Omega.{arith}
+use lib.ListN.{length, getD}
+use Rattle.program.specs.Program.{Rule, fact, ruleAt}
+use Rattle.image.specs.Layout.{partOf, firstOf, secondOf}
+use Rattle.image.specs.Reading.{ruleIn, rulesIn, pairsIn}
+
+pub rules-length : (s : List ℕ) (i n : ℕ) → length (rulesIn s i n) ≡ n
+unfolding rulesIn
+rules-length s i zero = refl
+rules-length s i (suc n) = ap suc (rules-length s (suc i) n)
+
+rules-from : (s : List ℕ) (i n j : ℕ) → j < n → ruleAt (rulesIn s i n) j ≡ ruleIn (partOf s (i + j))
+unfolding rulesIn
+rules-from s i zero j h = absurd (omega arith)
+rules-from s i (suc n) zero h = ap (λ (k : ℕ). ruleIn (partOf s k)) (sym (add-zero i))
+rules-from s i (suc n) (suc j) h = rules-from s (suc i) n j (omega arith) ∙ ap (λ (k : ℕ). ruleIn (partOf s k)) (omega arith)
+
+pub rules-at : (s : List ℕ) (n j : ℕ) → j < n → ruleAt (rulesIn s 0 n) j ≡ ruleIn (partOf s j)
+rules-at s n j h = rules-from s 0 n j h ∙ ap (λ (k : ℕ). ruleIn (partOf s k)) (omega arith)
+
+-- each rule is that of some part
+pub rules-found : (s : List ℕ) (i n : ℕ) (r : Rule) → List·Memᴰ r (rulesIn s i n) → (j : ℕ) × (i ≤ j) × (j < i + n) × (r ≡ ruleIn (partOf s j))
+unfolding rulesIn
+rules-found s i zero r m = absurd (List·Memᴰ·not-nil m)
+rules-found s i (suc n) r m = go (rules-found s (suc i) n r) (List·Memᴰ·cases-cons m)
+  where
+    go : (List·Memᴰ r (rulesIn s (suc i) n) → (j : ℕ) × (suc i ≤ j) × (j < suc i + n) × (r ≡ ruleIn (partOf s j))) → (r ≡ ruleIn (partOf s i)) ⊎ List·Memᴰ r (rulesIn s (suc i) n) → (j : ℕ) × (i ≤ j) × (j < i + suc n) × (r ≡ ruleIn (partOf s j))
+    go f (inl e) = (i, omega arith, omega arith, e)
+    go f (inr k) = let x = f k in let a = x .1 in let b = x .2 in (x .0, omega arith, omega arith, x .3)
+
+-- each pair is that of some place
+pub pairs-found : (s : List ℕ) (j n a b : ℕ) → List·Memᴰ (a, b) (pairsIn s j n) → (k : ℕ) × (j ≤ k) × (k < j + n) × (a ≡ firstOf s k) × (b ≡ secondOf s k)
+unfolding pairsIn
+pairs-found s j zero a b m = absurd (List·Memᴰ·not-nil m)
+pairs-found s j (suc n) a b m = go (pairs-found s (suc j) n a b) (List·Memᴰ·cases-cons m)
+  where
+    go : (List·Memᴰ (a, b) (pairsIn s (suc j) n) → (k : ℕ) × (suc j ≤ k) × (k < suc j + n) × (a ≡ firstOf s k) × (b ≡ secondOf s k)) → (_≡_ {A = ℕ × ℕ} (a, b) (firstOf s j, secondOf s j)) ⊎ List·Memᴰ (a, b) (pairsIn s (suc j) n) → (k : ℕ) × (j ≤ k) × (k < j + suc n) × (a ≡ firstOf s k) × (b ≡ secondOf s k)
+    go f (inl e) = (j, omega arith, omega arith, ap (λ (q : ℕ × ℕ). q .0) e, ap (λ (q : ℕ × ℕ). q .1) e)
+    go f (inr k) = let x = f k in let l = x .1 in let u = x .2 in (x .0, omega arith, omega arith, x .3, x .4)

@@ -1,0 +1,71 @@
+// From the bytes of an accepted image to the rule table.
+ghost use mathlib.Core.Path.{_≡_};
+ghost use mathlib.Core.Bool.{true};
+ghost use Prim.Native.Nat.{_≤_, _<_};
+ghost use lib.ListN.{length, drop};
+ghost use lib.Dec.{eqb};
+ghost use Rattle.literals.specs.Sets.{insertAll};
+ghost use Rattle.literals.specs.Words.{setOf};
+ghost use Rattle.program.specs.Program.{nextBit, defeasibles};
+ghost use Rattle.program.specs.Filling.{Stored, RowsTo};
+ghost use Rattle.image.specs.Layout.{rulesOf, kindByte, bodyBytes};
+ghost use Rattle.image.specs.Causes.{allBelow, verdict};
+ghost use Rattle.image.specs.Reading.{ruleIn, rulesIn};
+use crate::Verdict;
+use crate::cursor;
+use crate::part;
+use literals::LiteralSet;
+use program::RuleTable;
+
+fn wide(byte: u8) -> u64
+    ensures { λ r. ⌜ r ≡ byte ⌝ }
+{
+    byte as u64
+}
+
+// The body of the rule in a part, as a set.
+fn body_set(bytes: &[u8]) -> LiteralSet
+    requires { ⌜ allBelow 128 (bodyBytes (now bytes)) ≡ true ⌝ }
+    ensures { λ r. ⌜ setOf r ≡ insertAll 0 (bodyBytes (now (bytes .entry))) ⌝ }
+{
+    let mut body = LiteralSet::empty();
+    let mut k: usize = 2;
+    while k < bytes.len() {
+        body = body.insert(wide(bytes[k]));
+        k += 1;
+    }
+    body
+}
+
+// Puts the rule of a part into row i, with the bit if it is defeasible. Hands back the next rule's bit.
+fn store_rule(table: &mut RuleTable, bytes: &[u8], i: u64, bit: u64) -> u64
+    requires { ⌜ (2 ≤ length (now bytes)) × (allBelow 128 (bodyBytes (now bytes)) ≡ true) × (i < 96) × (eqb (kindByte (now bytes)) 1 ≡ true → bit < 16) × (bit ≤ 16) ⌝ }
+    ensures { λ r. ⌜ (r ≡ nextBit (ruleIn (now (bytes .entry)) .kind) bit) × (length (now (table .exit)) ≡ length (now (table .entry))) × (length (now (table .entry)) ≡ 419 → Stored (ruleIn (now (bytes .entry))) i bit (now (table .entry)) (now (table .exit))) ⌝ }
+{
+    let head = wide(bytes[1]);
+    let body = body_set(bytes);
+    if part::defeasible(bytes) {
+        program::store_row(table, i, head, body, 1u64 << bit);
+        program::store_bit(table, bit, i);
+        return bit + 1;
+    }
+    program::store_row(table, i, head, body, 0);
+    bit
+}
+
+// Puts all rules into the table. Hands back how many of them are defeasible.
+fn store_rules(table: &mut RuleTable, image: &[u8], rules: usize) -> u64
+    requires { ⌜ (verdict (now image) ≡ Verdict.Accepted) × (rules ≡ rulesOf (now image)) ⌝ }
+    ensures { λ r. ⌜ (r ≡ defeasibles (rulesIn (now (image .entry)) 0 rules)) × (length (now (table .exit)) ≡ length (now (table .entry))) × (length (now (table .entry)) ≡ 419 → RowsTo (rulesIn (now (image .entry)) 0 rules) rules (now (table .exit))) ⌝ }
+{
+    let mut bit: u64 = 0;
+    let mut i: usize = 0;
+    while i < rules {
+        let at = cursor::locate(image, i);
+        let from = at.from;
+        let to = at.to;
+        bit = store_rule(table, &image[from..to], i as u64, bit);
+        i += 1;
+    }
+    bit
+}
