@@ -4,3 +4,4 @@ pub mod Answers
 pub mod Refusals
 pub mod Fittings
 pub mod Calls
+pub mod Claims
