@@ -1,0 +1,7 @@
+-- The theorems on answers and calls.
+pub mod Warrant
+pub mod Answers
+pub mod Refusals
+pub mod Fittings
+pub mod Calls
+pub mod Claims
