@@ -131,6 +131,11 @@ check-accepted s e =
     let k = then-accepted _ _ e in
     (k .0, refuse-accepted (contradictory (Π (programIn s .rules))) 14 0 (k .1))
 
+pub check-passes : (s : List ℕ) → verdict s ≡ Accepted → contradictory (Π (programIn s .rules)) ≡ false
+    → checkImage s ≡ Accepted
+unfolding checkImage
+check-passes s e c = rw (e, c)
+
 pub list-accepted : (s : List ℕ) (room : ℕ) → listVerdict s room ≡ Accepted
     → (checkImage s ≡ Accepted) × (length (listIn s) ≤ room)
 unfolding listVerdict
