@@ -14,8 +14,10 @@ use Rattle.defeat.specs.Tests.{Tests}
 use Rattle.defeat.specs.OfProgram.{testsOf}
 use Rattle.tree.proofs.Entries.{entries-length}
 use Rattle.warrant.specs.Warrant.{WarrantedBy}
-use Rattle.warrant.specs.Answer.{Occurs, occurs, indexIn, forest, nodeCount, forestEntries, warranted, answerOf, answerBy, codeOf, nodesOf}
-use Rattle.warrant.proofs.Warrant.{occurs-renders, occurs-complement, warranted-occurs, warranted-apart, complement-excludes, warranted-renders}
+use Rattle.warrant.specs.Answer.{Occurs, occurs, indexIn, forest, nodeCount, forestEntries, warranted, answerOf}
+use Rattle.warrant.specs.Answer.{answerBy, codeOf, nodesOf}
+use Rattle.warrant.proofs.Warrant.{occurs-renders, occurs-complement, warranted-occurs, warranted-apart}
+use Rattle.warrant.proofs.Warrant.{complement-excludes, warranted-renders}
 
 -- ---- by the tests that decide between the answers
 
@@ -165,7 +167,8 @@ module _ (p : Program) (heads : HeadsBelow 128 (p .rules)) (Preferred : ℕ → 
   renders : (k : ℕ) → Decides (warranted (testsOf p preferred) k) (W k)
   renders = warranted-renders p heads Preferred preferred decides
 
-  pub answer-yes : (codeOf (answerBy p preferred h b) ≡ 1) ↔ ((nodeCount (testsOf p preferred) h ≤ b) × WarrantedBy p Preferred h)
+  pub answer-yes : (codeOf (answerBy p preferred h b) ≡ 1)
+      ↔ ((nodeCount (testsOf p preferred) h ≤ b) × WarrantedBy p Preferred h)
   unfolding answerBy
   answer-yes =
       let by = yes-by b N (occurs p h) (ltb b N) (w p preferred h b) (m p preferred h b) in

@@ -19,11 +19,14 @@ use Rattle.defeat.specs.Preference.{preferredTest}
 use Rattle.tree.specs.Entries.{Entry}
 use Rattle.warrant.specs.declared.Answer.{Answer}
 use Rattle.warrant.specs.declared.Answer.the-variants.{Yes, No, Undecided, Unknown, Unfinished, Refused}
-use Rattle.warrant.specs.Answer.{occurs, forestEntries, nodeCount, warranted, answerOf, answerBy, tests, answer, codeOf, nodesOf}
-use Rattle.warrant.specs.Calls.{listIn, listVerdict, front, unlessRefused, listTable, queryVerdict, answeredBy, queried, queryArguments}
+use Rattle.warrant.specs.Answer.{occurs, forestEntries, nodeCount, warranted, answerOf, answerBy, tests, answer}
+use Rattle.warrant.specs.Answer.{codeOf, nodesOf}
+use Rattle.warrant.specs.Calls.{listIn, listVerdict, front, unlessRefused, listTable, queryVerdict, answeredBy}
+use Rattle.warrant.specs.Calls.{queried, queryArguments}
 use Rattle.warrant.specs.Calls.{nodesAfter, zeroed, queryTable, packed, hostCall}
 use Rattle.warrant.proofs.Answers.{entries-count, answer-not-refused, answer-nodes-within}
-use Rattle.warrant.proofs.Refusals.{ByCause, accepted, refused, cause-cases, query-cause, list-accepted, query-accepted}
+use Rattle.warrant.proofs.Refusals.{ByCause, accepted, refused, cause-cases, query-cause, list-accepted}
+use Rattle.warrant.proofs.Refusals.{query-accepted}
 
 -- ---- a code of an answer is the answer's, and nothing refused it
 
@@ -145,7 +148,8 @@ module _ (s : List ℕ) where
     query-table-length {A} field al table =
         answered-length (queryVerdict s h b al (length table)) (answer p h b) rows (field zeroed) table (λ e.
         after-length b (nodeCount t h) rows (field zeroed) table (query-accepted s h b al (length table) e .node-room)
-        (occurs p h) (ltb b (nodeCount t h)) (warranted t h) (warranted t (complement h)) (λ k. rw count (nltb→le b (nodeCount t h) k)))
+        (occurs p h) (ltb b (nodeCount t h)) (warranted t h) (warranted t (complement h))
+        (λ k. rw count (nltb→le b (nodeCount t h) k)))
       where
         p : Program
         p = programIn s
@@ -191,8 +195,11 @@ module _ {A B : Type 0} (f : A → B) where
   unfolding queryTable
   query-table-column field s h b al table =
       map-after (queried s h b al (length table)) (map field rows) (field zeroed) table
-      ∙ ap (λ n. nodesAfter (queried s h b al n) (map f (map field rows)) (f (field zeroed)) (map f table)) (sym (length-map table f))
-      ∙ ap (λ r. nodesAfter (queried s h b al (length (map f table))) r (f (field zeroed)) (map f table)) (map-map f field rows)
+      ∙ ap (λ n. after n (map f (map field rows))) (sym (length-map table f))
+      ∙ ap (after (length (map f table))) (map-map f field rows)
     where
+      after : ℕ → List B → List B
+      after n r = nodesAfter (queried s h b al n) r (f (field zeroed)) (map f table)
+
       rows : List Entry
       rows = forestEntries (tests (programIn s)) h

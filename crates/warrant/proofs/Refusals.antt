@@ -13,7 +13,8 @@ use Rattle.program.specs.Program.{Π}
 use Rattle.image.specs.declared.Verdict.{Verdict}
 use Rattle.image.specs.declared.Verdict.the-variants.{Accepted, Refused}
 use Rattle.image.specs.Layout.{atomsOf, rulesOf, pairsOf, partOf, kindByte}
-use Rattle.image.specs.Causes.{refuse, andThen, badLength, badCounts, badDirectory, badSize, badKind, badLiteral, badBody, badEmpty}
+use Rattle.image.specs.Causes.{refuse, andThen, badLength, badCounts, badDirectory, badSize, badKind, badLiteral}
+use Rattle.image.specs.Causes.{badBody, badEmpty}
 use Rattle.image.specs.Causes.{badSeventeenth, badRepeat, badPairs, badPair, badOrder, countKind}
 use Rattle.image.specs.Causes.{partVerdict, ruleVerdict, rulesVerdict, pairVerdict, pairsVerdict, verdict}
 use Rattle.image.specs.Reading.{programIn}

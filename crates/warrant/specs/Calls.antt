@@ -103,8 +103,8 @@ zeroed = record { argument = 0; parent = 0; kind = 0; mark = 0 }
 -- what a field of the entries, or the whole entry, leaves in a table of its own: four tables of numbers, or one of nodes
 unfoldable pub queryTable : {A : Type 0} → (Entry → A) → List ℕ → (literal budget argumentRoom : ℕ) → List A → List A
 queryTable field s h budget argumentRoom table =
-    nodesAfter (queried s h budget argumentRoom (length table)) (map field (forestEntries (tests (programIn s)) h)) (field zeroed)
-    table
+    let forest = map field (forestEntries (tests (programIn s)) h) in
+    nodesAfter (queried s h budget argumentRoom (length table)) forest (field zeroed) table
 
 abbrev pub queryNodes : List ℕ → (literal budget argumentRoom : ℕ) → List Node → List Node
 queryNodes = queryTable nodeOf
