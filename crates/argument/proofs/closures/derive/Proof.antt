@@ -4,7 +4,8 @@ use mathlib.Core.Path.{sym, ap, _∙_}
 use borrow.Author.Tests.{not-true, not-false}
 use Rattle.literals.specs.Words.{setOf}
 use Rattle.literals.proofs.Members.{minus-less}
-use Rattle.argument.proofs.Fills.{mask-small, Left, left-all, left-none, turn-bit, turn-less, turn-rule, turn-copy, turn-next}
+use Rattle.argument.proofs.Entries.{mask-small}
+use Rattle.argument.proofs.Fills.{Left, left-all, left-none, turn-bit, turn-less, turn-rule, turn-copy, turn-next}
 use borrow.Author.Needs.{needs}
 use native.Mathlib.Omega.{arith}
 use Rattle.argument.proofs.closures.derive.Statement.{statement}
