@@ -2,7 +2,7 @@
 use mathlib.Core.Path.{_≡_, refl, sym, ap, ap₂, _∙_, subst}
 use mathlib.Core.Bool.{Bool, true, false, not, _&&_, false≢true}
 use mathlib.Core.List.{List}
-use mathlib.Core.Logic.{_⊎_, inl, inr, ⊎-elim}
+use mathlib.Core.Logic.{_⊎_, inl, inr}
 use Prim.Native.Nat.{ℕ, _+_, _*_, _^_, _<_, _≤_}
 use native.Mathlib.Nat.{eq-or-lt-of-le}
 use native.Mathlib.Decide.{ℕ-discrete}
@@ -18,7 +18,7 @@ use Rattle.literals.proofs.Tests.{and-left, and-right, and-intro, not-true-fals
 use Rattle.literals.proofs.Members.{has-minus-power, has-insert-same, insert-keeps, has-empty}
 use Rattle.literals.proofs.Lists.{hasAll-within, hasAll-each}
 use Rattle.literals.proofs.Within.{within-each, within-empty, within-union-left, union-within, insert-within}
-use Rattle.program.specs.Program.{Rule, isDefeasible, bitOf, ruleAt, Π-mask, Π}
+use Rattle.program.specs.Program.{Rule, bitOf, ruleAt, Π-mask, Π}
 use Rattle.program.specs.Limits.{DefeasibleAt}
 use Rattle.program.proofs.Numbers.{defeasible-test, defeasible-found, bit-of-same}
 use Rattle.derivation.specs.Closure.{closure}

@@ -3,7 +3,7 @@
 use mathlib.Core.Path.{_≡_, refl, sym, ap, ap₂, _∙_, subst}
 use mathlib.Core.Bool.{Bool, true, false}
 use mathlib.Core.List.{List, [], _∷_, _++_}
-use Prim.Native.Nat.{ℕ, suc, _+_, _-_, _*_, _^_, _<_, _≤_}
+use Prim.Native.Nat.{ℕ, _+_, _-_, _*_, _^_, _<_, _≤_}
 use native.Mathlib.Nat.{zero-add}
 use native.Mathlib.Numerals.{add-one}
 use native.Mathlib.Omega.{arith}
@@ -16,10 +16,9 @@ use borrow.Author.Tests.{eqb-true, le-leb, lt-leb}
 use Rattle.literals.specs.Sets.{has, choose, minus, union, within, clash}
 use Rattle.literals.proofs.Members.{has-bound, minus-less}
 use Rattle.literals.proofs.Within.{within-each, within-refl, within-trans, within-union-left, minus-within}
-use Rattle.argument.specs.declared.Listed.{Listed}
 use Rattle.argument.specs.declared.Listed.the-variants.{Count, Over}
 use Rattle.argument.specs.Fresh.{unionOver, derivedWithout}
-use Rattle.argument.specs.List.{picked, listBy}
+use Rattle.argument.specs.List.{listBy}
 use Rattle.argument.specs.Closures.{closureAt}
 use Rattle.argument.specs.Listing.{freshIn, listIn, membersFrom, Written, listed, withList}
 use Rattle.argument.proofs.Unions.{union-assoc, unionOver-empty, unionOver-first}
@@ -178,7 +177,8 @@ pub written-append : (a b c : List ℕ) (at next end : ℕ) (l k w : List ℕ) �
     → Written a c at end w
 written-append a b c at next end l k w e x y =
     record {
-      stored = y .stored ∙ ap₂ (λ (s : List ℕ) (n : ℕ). sets s n k) (x .stored) (x .next-is) ∙ sym (sets-append l k a at) ∙ ap (sets a at) (sym e);
+      stored = y .stored ∙ ap₂ (λ (s : List ℕ) (n : ℕ). sets s n k) (x .stored) (x .next-is) ∙ sym (sets-append l k a at)
+          ∙ ap (sets a at) (sym e);
       next-is = omega (arith, y .next-is, x .next-is, ap length e, length-append l k);
     }
 

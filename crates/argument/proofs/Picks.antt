@@ -1,16 +1,16 @@
 -- Lists of the numbers that pass a test: when two are the same, how long they are, and how they are taken apart. Assumes
 -- nothing.
 use mathlib.Core.Path.{_≡_, refl, sym, ap, ap₂, _∙_}
-use mathlib.Core.Bool.{Bool, true, false, not, _&&_, false≢true}
+use mathlib.Core.Bool.{Bool, true, false, not, _&&_}
 use mathlib.Core.List.{List, [], _∷_, _++_}
 use mathlib.Core.Logic.{_⊎_, inl, inr}
-use Prim.Native.Nat.{ℕ, zero, suc, _+_, _-_, _*_, _/_, _%_, _^_, _<_, _≤_}
+use Prim.Native.Nat.{ℕ, zero, suc, _+_, _-_, _*_, _/_, _^_, _<_, _≤_}
 use native.Mathlib.Nat.{eq-or-lt-of-le, add-zero, zero-add, add-suc, suc-add, pow-suc}
 use native.Mathlib.Numerals.{add-one, one-add}
 use native.Mathlib.Omega.{arith}
 use lib.Dec.{eqb}
 use lib.Count.{ones, ones-step}
-use lib.ListN.{length, set, length-append}
+use lib.ListN.{length, set}
 use lib.Seq.{sets}
 use borrow.Author.Tests.{eq-eqb, ne-eqb}
 use Rattle.literals.specs.Sets.{has, bit, minus, Lowest}
@@ -22,7 +22,8 @@ use Rattle.program.specs.Program.{keep}
 use Rattle.argument.specs.List.{picked, listBy}
 use Rattle.argument.specs.Listing.{membersFrom}
 
-pub picked-ext : (f g : ℕ → Bool) (base k n : ℕ) → ((j : ℕ) → k ≤ j → j < k + n → f j ≡ g j) → picked f base k n ≡ picked g base k n
+pub picked-ext : (f g : ℕ → Bool) (base k n : ℕ) → ((j : ℕ) → k ≤ j → j < k + n → f j ≡ g j)
+    → picked f base k n ≡ picked g base k n
 unfolding picked
 picked-ext f g base k zero e = refl
 picked-ext f g base k (suc n) e =
@@ -135,7 +136,8 @@ members-length (suc n) base s l =
     first (suc (suc d)) l = absurd (omega arith)
 
 -- the numbers of the n masks from k on
-pub listed-ext : (f g : ℕ → ℕ → Bool) (k n : ℕ) → ((m : ℕ) → m < k + n → (h : ℕ) → f m h ≡ g m h) → listBy f k n ≡ listBy g k n
+pub listed-ext : (f g : ℕ → ℕ → Bool) (k n : ℕ) → ((m : ℕ) → m < k + n → (h : ℕ) → f m h ≡ g m h)
+    → listBy f k n ≡ listBy g k n
 unfolding listBy
 listed-ext f g k zero e = refl
 listed-ext f g k (suc n) e =

@@ -2,12 +2,12 @@
 use mathlib.Core.Path.{_≡_, refl, sym, ap, _∙_, subst}
 use mathlib.Core.Bool.{true}
 use mathlib.Core.List.{List, List·Memᴰ}
-use Prim.Native.Nat.{ℕ, _+_, _*_, _<_, _≤_}
+use Prim.Native.Nat.{ℕ, _<_}
 use native.Mathlib.Omega.{arith}
 use lib.ListN.{length}
-use Rattle.program.specs.Program.{Rule, Program, defeasibles, bitOf, ruleAt}
+use Rattle.program.specs.Program.{Rule, Program, bitOf, ruleAt}
 use Rattle.program.specs.Limits.{DefeasibleAt, Limits}
-use Rattle.program.specs.Table.{ruleOfBit, bitCount, ruleCount, headAt, Holds, Shaped}
+use Rattle.program.specs.Table.{ruleOfBit, bitCount, Holds, Shaped}
 use Rattle.program.proofs.Numbers.{defeasible-test, bit-of-found}
 use Rattle.derivation.proofs.Choices.{Π-with-rules, Π-with-at}
 use Rattle.argument.specs.Closures.{Numbered}

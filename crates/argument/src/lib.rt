@@ -23,9 +23,12 @@ pub enum Listed {
 pub fn list(table: &RuleTable, closures: &mut [u64], arguments: &mut [u32]) -> Listed
     requires { ⌜ Numbered (now table) ⌝ }
     requires { ⌜ Room (bitCount (now table)) (now closures) ⌝ }
-    ensures result { λ r. ⌜ ((p : Program) → Limits p → Holds p (now (table .entry)) → r ≡ listed (argumentList (p .rules)) (now (arguments .entry))) ⌝ }
-    ensures written { λ _. ⌜ ((p : Program) → Limits p → Holds p (now (table .entry)) → now (arguments .exit) ≡ withList (argumentList (p .rules)) (now (arguments .entry))) ⌝ }
-    ensures filled { λ _. ⌜ ((p : Program) → Limits p → Holds p (now (table .entry)) → Filled (p .rules) (2 ^ bitCount (now (table .entry))) (now (closures .exit))) ⌝ }
+    ensures result { λ r. ⌜ ((p : Program) → Limits p → Holds p (now (table .entry))
+        → r ≡ listed (argumentList (p .rules)) (now (arguments .entry))) ⌝ }
+    ensures written { λ _. ⌜ ((p : Program) → Limits p → Holds p (now (table .entry))
+        → now (arguments .exit) ≡ withList (argumentList (p .rules)) (now (arguments .entry))) ⌝ }
+    ensures filled { λ _. ⌜ ((p : Program) → Limits p → Holds p (now (table .entry))
+        → Filled (p .rules) (2 ^ bitCount (now (table .entry))) (now (closures .exit))) ⌝ }
 {
     closures::fill(table, closures);
     let bits = program::bit_count(table);

@@ -1,6 +1,5 @@
 -- `arguments::count` meets its contract: what is found, with the arguments of the masks that are left, is the whole list.
 -- Assumes nothing.
-use mathlib.Core.Path.{_∙_}
 use Prim.Native.Nat.{_^_, _<_, _≤_, _-_}
 use lib.Count.{ones-le}
 use Rattle.literals.specs.Words.{setOf}
@@ -17,7 +16,7 @@ Inv-loop closures bits end found₀ mask₀ found mask = Counted closures bits e
 abbrev μ-loop : tie.MeasureT-loop
 μ-loop closures bits end found₀ mask₀ found mask = end - mask
 
--- the set has at most 128 members
+-- a set has at most 128 members
 module _ (c : tie.After-count Inv-loop μ-loop) where
   small : setOf (c .before .fresh .result) < 2 ^ 128
   unfolding setOf
@@ -42,7 +41,9 @@ cast-found : tie.Need-cast-found Inv-loop μ-loop
 cast-found c = omega (arith, few c)
 
 add-found : tie.Need-add-found Inv-loop μ-loop
-add-found c = omega (arith, few c, c .before .before .before .loop .inv .few, c .before .before .before .before .mask-count .ensures .1)
+add-found c =
+    let end = c .before .before .before .before .mask-count .ensures .1 in
+    omega (arith, few c, c .before .before .before .loop .inv .few)
 
 add-mask : tie.Need-add-mask Inv-loop μ-loop
 add-mask c = omega (arith, c .before .before .before .before .mask-count .ensures .1)
@@ -52,7 +53,9 @@ loop-less c = omega arith
 
 loop-again : tie.Need-loop-again Inv-loop μ-loop
 loop-again c =
-    counted-next _ _ _ (c .before .before .before .loop .mask) _ _ _ (omega arith) (c .before .before .before .loop .inv) (small c) (c .before .fresh .ensures) (c .count .ensures)
+    let l = c .before .before .before in
+    counted-next _ _ _ (l .loop .mask) _ _ _ (omega arith) (l .loop .inv) (small c) (c .before .fresh .ensures)
+    (c .count .ensures)
 
 returns : tie.Need-returns Inv-loop μ-loop
 returns c = counted-all _ _ _ (c .before .loop .mask) _ (omega arith) (c .before .loop .inv)

@@ -3,7 +3,7 @@
 use mathlib.Core.Path.{refl, sym, ap, _∙_}
 use Prim.Native.Nat.{_<_, _^_}
 use Rattle.literals.specs.Words.{setOf}
-use Rattle.literals.specs.Sets.{minus, clash}
+use Rattle.literals.specs.Sets.{clash}
 use Rattle.literals.proofs.Members.{minus-less}
 use Rattle.argument.proofs.Entries.{room-entry}
 use Rattle.argument.proofs.Readings.{fresh-clash}
@@ -14,7 +14,8 @@ use Rattle.argument.proofs.arguments.fresh.Statement.{statement}
 use Rattle.argument.proofs.arguments.fresh.Tie as tie
 
 abbrev Inv-loop : tie.InvT-loop
-Inv-loop closures bits mask whole less₀ left₀ less left = (inside : mask < 2 ^ bits) → Rest closures bits mask inside left (setOf less)
+Inv-loop closures bits mask whole less₀ left₀ less left =
+    (inside : mask < 2 ^ bits) → Rest closures bits mask inside left (setOf less)
 
 abbrev μ-loop : tie.MeasureT-loop
 μ-loop closures bits mask whole less₀ left₀ less left = left
@@ -30,7 +31,10 @@ empty-requires c κs = search needs
 
 returns : tie.Need-returns Inv-loop μ-loop
 returns c =
-    c .empty .ensures ∙ sym (fresh-clash _ (c .before .before .before .before .before .args .bits) _ (ap clash (sym (c .before .before .before .entry .ensures)) ∙ sym (c .before .before .contradictory .ensures) ∙ c .before .if1 .taken))
+    let clashing =
+    ap clash (sym (c .before .before .before .entry .ensures)) ∙ sym
+    (c .before .before .contradictory .ensures) ∙ c .before .if1 .taken in
+    c .empty .ensures ∙ sym (fresh-clash _ (c .before .before .before .before .before .args .bits) _ clashing)
 
 empty-requires-2 : tie.Need-empty-requires-2 Inv-loop μ-loop
 empty-requires-2 c κs = search needs
@@ -46,9 +50,11 @@ clear-requires c κs = c .lowest .ensures .small
 
 entry-requires-2 : tie.Need-entry-requires-2 Inv-loop μ-loop
 entry-requires-2 c κs =
+    let l = c .before in
     let s = c .before .before .before .before .before .before .before .before .before in
-    let low = c .before .lowest in
-    let less = rest-less _ _ _ (s .pre .1) _ _ (low .result) (c .before .before .before .loop .inv (s .pre .1)) (low .ensures .member) in
+    let less =
+    rest-less _ _ _ (s .pre .1) _ _ (l .lowest .result) (l .before .before .loop .inv (s .pre .1))
+    (l .lowest .ensures .member) in
     room-entry _ (s .args .bits) _ (s .pre .0) (omega (arith, c .clear .ensures, s .pre .1))
 
 union-requires : tie.Need-union-requires Inv-loop μ-loop
@@ -62,33 +68,45 @@ empty-requires-3 c κs = search needs
 
 returns-2 : tie.Need-returns-2 Inv-loop μ-loop
 returns-2 c =
-    let s = c .before .before .before .before .before .before .before .before .before .before .before .before .before .before in
-    let low = c .before .before .before .before .before .before .lowest in
-    rest-found _ _ _ (s .pre .1) _ (c .before .before .before .before .before .before .before .before .before .before .before .before .entry .ensures) (sym (c .before .before .before .before .before .before .before .before .before .before .before .contradictory .ensures) ∙ c .before .before .before .before .before .before .before .before .before .before .if1 .left) _ _ _
-    (rest-next _ _ _ (s .pre .1) _ _ (low .result) _ _ _ _ (c .before .before .before .before .before .before .before .before .loop .inv (s .pre .1)) (low .ensures .member) (c .before .before .before .before .before .clear .ensures)
-    (c .before .before .before .before .entry2 .ensures) (c .before .before .before .union .ensures) refl)
-    (sym (c .before .before .within .ensures) ∙ c .before .if2 .taken) (c .empty3 .ensures)
+    let l = c .before .before .before .before .before .before in
+    let w = c .before .before .before .before .before .before .before .before .before .before in
+    let inside =
+    c .before .before .before .before .before .before .before .before .before .before .before .before .before .before .pre .1 in
+    let next =
+    rest-next _ _ _ inside _ _ (l .lowest .result) _ _ _ _ (l .before .before .loop .inv inside)
+    (l .lowest .ensures .member)
+    (c .before .before .before .before .before .clear .ensures) (c .before .before .before .before .entry2 .ensures)
+    (c .before .before .before .union .ensures) refl in
+    rest-found _ _ _ inside _ (w .before .before .entry .ensures)
+    (sym (w .before .contradictory .ensures) ∙ w .if1 .left) _ _ _
+    next (sym (c .before .before .within .ensures) ∙ c .before .if2 .taken) (c .empty3 .ensures)
 
 clear-requires-2 : tie.Need-clear-requires-2 Inv-loop μ-loop
 clear-requires-2 c κs = c .before .before .before .before .before .lowest .ensures .small
 
 loop-less : tie.Need-loop-less Inv-loop μ-loop
-loop-less c = rw (c .clear2 .ensures) (minus-less (c .before .before .before .before .before .before .before .before .loop .left) (c .before .before .before .before .before .before .lowest .result) (c .before .before .before .before .before .before .lowest .ensures .member))
+loop-less c =
+    let l = c .before .before .before .before .before .before in
+    rw (c .clear2 .ensures) (minus-less (l .before .before .loop .left) (l .lowest .result) (l .lowest .ensures .member))
 
 loop-again : tie.Need-loop-again Inv-loop μ-loop
 loop-again c inside =
-    let low = c .before .before .before .before .before .before .lowest in
-    rest-next _ _ _ inside _ _ (low .result) _ _ _ _ (c .before .before .before .before .before .before .before .before .loop .inv inside) (low .ensures .member) (c .before .before .before .before .before .clear .ensures)
-    (c .before .before .before .before .entry2 .ensures) (c .before .before .before .union .ensures) (c .clear2 .ensures)
+    let l = c .before .before .before .before .before .before in
+    rest-next _ _ _ inside _ _ (l .lowest .result) _ _ _ _ (l .before .before .loop .inv inside)
+    (l .lowest .ensures .member)
+    (c .before .before .before .before .before .clear .ensures) (c .before .before .before .before .entry2 .ensures)
+    (c .before .before .before .union .ensures) (c .clear2 .ensures)
 
 minus-requires : tie.Need-minus-requires Inv-loop μ-loop
 minus-requires c κs = search needs
 
 returns-3 : tie.Need-returns-3 Inv-loop μ-loop
 returns-3 c =
-    let s = c .before .before .before .before .before .before .before .before in
-    rest-none _ _ _ (s .pre .1) _ (c .before .before .before .before .before .before .entry .ensures) (sym (c .before .before .before .before .before .contradictory .ensures) ∙ c .before .before .before .before .if1 .left) _ _ _
-    (c .before .before .loop .inv (s .pre .1)) (c .before .loop-test .left) (c .minus .ensures)
+    let w = c .before .before .before .before in
+    let inside = c .before .before .before .before .before .before .before .before .pre .1 in
+    rest-none _ _ _ inside _ (w .before .before .entry .ensures)
+    (sym (w .before .contradictory .ensures) ∙ w .if1 .left) _ _ _
+    (c .before .before .loop .inv inside) (c .before .loop-test .left) (c .minus .ensures)
 
 pub fresh-spec : {M : Type 1} → statement M
 fresh-spec =

@@ -17,13 +17,22 @@ mask-count-requires : tie.Need-mask-count-requires Inv-loop μ-loop
 mask-count-requires c κs = c .before .before .pre .0 .few
 
 loop-holds : tie.Need-loop-holds Inv-loop μ-loop
-loop-holds c = (omega arith, writing-all _ _ _ _ (list-all (c .before .before .before .args .closures .now) (c .before .before .before .args .bits) _ (c .mask-count .ensures .0)))
+loop-holds c = (
+  omega arith,
+  writing-all _ _ _ _
+      (list-all (c .before .before .before .args .closures .now) (c .before .before .before .args .bits) _
+      (c .mask-count .ensures .0)),
+)
 
 mul-write-set : tie.Need-mul-write-set Inv-loop μ-loop
 mul-write-set c = omega (arith, c .before .before .before .mask-count .ensures .1)
 
 fresh-requires : tie.Need-fresh-requires Inv-loop μ-loop
-fresh-requires c κs = (c .before .before .before .before .before .before .pre .0, omega (arith, c .before .before .before .mask-count .ensures .0))
+fresh-requires c κs = (
+  c .before .before .before .before .before .before .pre .0,
+  omega
+      (arith, c .before .before .before .mask-count .ensures .0),
+)
 
 write-set-requires : tie.Need-write-set-requires Inv-loop μ-loop
 write-set-requires c κs =
@@ -44,10 +53,12 @@ loop-less c = omega arith
 loop-again : tie.Need-loop-again Inv-loop μ-loop
 loop-again c =
     let s = c .before .before .before .before .before .before .before .before .before .before in
-    let l = c .before .before .before .before .before .before .loop in (
+    let l = c .before .before .before .before .before .before .loop in
+    let end = c .before .before .before .before .before .before .before .mask-count in (
       omega arith,
-      list-more (s .args .closures .now) (s .args .bits) (c .before .before .before .before .before .before .before .mask-count .result) _ _ (l .at) (l .mask) (l .inv .1) _ (omega arith)
-          (c .before .before .before .fresh .ensures) _ _ (c .before .before .write-set .kept .0) (c .before .before .write-set .ensures),
+      list-more (s .args .closures .now) (s .args .bits) (end .result) _ _ (l .at) (l .mask) (l .inv .1) _ (omega arith)
+          (c .before .before .before .fresh .ensures) _ _ (c .before .before .write-set .kept .0)
+          (c .before .before .write-set .ensures),
     )
 
 same-length : tie.Need-same-length Inv-loop μ-loop
@@ -57,7 +68,8 @@ returns : tie.Need-returns Inv-loop μ-loop
 returns c =
     let s = c .before .before .before .before .before in
     let l = c .before .loop in
-    list-written (s .args .closures .now) (s .args .bits) (c .before .before .mask-count .result) _ _ (l .at) (l .mask) (l .inv .1) (omega arith)
+    let end = c .before .before .mask-count in
+    list-written (s .args .closures .now) (s .args .bits) (end .result) _ _ (l .at) (l .mask) (l .inv .1) (omega arith)
 
 pub write-spec : {M : Type 1} → statement M
 write-spec =

@@ -1,13 +1,13 @@
 -- `arguments::write_word` meets its contract: the members that are left are left to be written. Assumes nothing.
 use mathlib.Core.Path.{_≡_, refl, ap, _∙_}
-use mathlib.Core.List.{List, _∷_}
+use mathlib.Core.List.{_∷_}
 use Prim.Native.Nat.{ℕ, _+_, _^_, _<_}
 use lib.ListN.{length}
 use Rattle.literals.specs.Sets.{minus}
 use Rattle.literals.proofs.Members.{minus-less}
 use Rattle.argument.specs.Listing.{membersFrom}
 use Rattle.argument.proofs.Picks.{members-none, members-lowest}
-use Rattle.argument.proofs.Listings.{Writing, writing-all, writing-one, writing-room, writing-none}
+use Rattle.argument.proofs.Listings.{Writing, writing-all, writing-one, writing-none}
 use native.Mathlib.Omega.{arith}
 use Rattle.argument.proofs.arguments.write_word.Statement.{statement}
 use Rattle.argument.proofs.arguments.write_word.Tie as tie
@@ -19,14 +19,19 @@ Inv-loop arguments₀ at base word next₀ left₀ arguments next left =
 abbrev μ-loop : tie.MeasureT-loop
 μ-loop arguments₀ at base word next₀ left₀ arguments next left = left
 
+-- the lowest member is the next to be written, and there is a place for it
 module _ (c : tie.After-lowest Inv-loop μ-loop) where
   abbrev base : ℕ
   base = c .before .before .before .before .args .base
 
-  -- the lowest member is the next to be written, and there is a place for it
-  first : membersFrom base 64 (c .before .before .loop .left)
-      ≡ (base + c .lowest .result) ∷ membersFrom base 64 (minus (c .before .before .loop .left) (2 ^ c .lowest .result))
-  first = members-lowest base (c .before .before .loop .left) (c .lowest .result) (c .lowest .ensures) 64 (c .lowest .ensures .small)
+  abbrev left : ℕ
+  left = c .before .before .loop .left
+
+  abbrev bit : ℕ
+  bit = c .lowest .result
+
+  first : membersFrom base 64 left ≡ (base + bit) ∷ membersFrom base 64 (minus left (2 ^ bit))
+  first = members-lowest base left bit (c .lowest .ensures) 64 (c .lowest .ensures .small)
 
   place : c .before .before .loop .next < length (c .before .before .loop .arguments)
   place =
@@ -58,11 +63,15 @@ clear-requires : tie.Need-clear-requires Inv-loop μ-loop
 clear-requires c κs = c .lowest .ensures .small
 
 loop-less : tie.Need-loop-less Inv-loop μ-loop
-loop-less c = rw (c .clear .ensures) (minus-less (c .before .before .before .loop .left) (c .before .lowest .result) (c .before .lowest .ensures .member))
+loop-less c =
+    let l = c .before in
+    rw (c .clear .ensures) (minus-less (left l) (bit l) (l .lowest .ensures .member))
 
 loop-again : tie.Need-loop-again Inv-loop μ-loop
 loop-again c =
-    rw (c .clear .ensures) (writing-one _ _ _ (c .before .before .before .loop .next) _ _ (c .before .before .before .loop .inv) _ _ (first (c .before)))
+    let l = c .before in
+    rw (c .clear .ensures)
+    (writing-one _ _ _ (c .before .before .before .loop .next) _ _ (c .before .before .before .loop .inv) _ _ (first l))
 
 same-length : tie.Need-same-length Inv-loop μ-loop
 same-length c = c .before .loop .inv .kept
