@@ -1,12 +1,11 @@
 -- The rule table of a program within the limits: its bits and their rules. Assumes nothing.
 use mathlib.Core.Path.{_≡_, refl, sym, ap, _∙_, subst}
 use mathlib.Core.List.{List}
-use Prim.Native.Nat.{ℕ, _+_, _*_, _<_, _≤_}
+use Prim.Native.Nat.{ℕ, _<_}
 use native.Mathlib.Omega.{arith}
-use lib.ListN.{length}
-use Rattle.program.specs.Program.{Rule, Program, defeasibles, bitOf}
+use Rattle.program.specs.Program.{Rule, Program, bitOf}
 use Rattle.program.specs.Limits.{DefeasibleAt, Limits}
-use Rattle.program.specs.Table.{ruleOfBit, bitCount, ruleCount, Holds}
+use Rattle.program.specs.Table.{ruleOfBit, bitCount, Holds}
 use Rattle.program.proofs.Numbers.{defeasible-test, bit-of-found}
 use Rattle.derivation.proofs.Tables.{limits-shaped}
 use Rattle.argument.specs.Closures.{Numbered}
