@@ -5,6 +5,8 @@ use lib.Count.{ones}
 use Rattle.literals.specs.Sets.{union}
 use Rattle.program.specs.Program.{Rule, Π-mask}
 use Rattle.derivation.specs.Closure.{closure}
+use Rattle.warrant.specs.declared.Listed.{Listed}
+use Rattle.warrant.specs.declared.Listed.the-variants as lists
 use Rattle.image.specs.Causes.{verdict}
 use Rattle.image.specs.Reading.{programIn}
 use Rattle.image.specs.declared.Verdict.{Verdict}
@@ -14,6 +16,11 @@ use Rattle.image.specs.declared.Verdict.the-variants.{Accepted, Refused}
 abbrev pub verdictNumber : Verdict → ℕ
 verdictNumber Accepted = 0
 verdictNumber (Refused n p) = n * 0x1_0000_0000 + p
+
+-- the number of arguments, or number * 2^32 + place
+abbrev pub listedNumber : Listed → ℕ
+listedNumber (lists.Count n) = n
+listedNumber (lists.Refused n p) = n * 0x1_0000_0000 + p
 
 -- the literals of some set and those that one of the n masks from m on derives
 unfoldable pub derivedByMasks : List Rule → ℕ → ℕ → ℕ → ℕ

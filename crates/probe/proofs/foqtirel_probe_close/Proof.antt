@@ -86,7 +86,7 @@ loop-again c =
     let l = c .before .before .before .before .before .loop in
     l .inv ∙ masks-next (programIn s .rules) (setOf (l .derived)) (l .mask) (c .before .before .before .before .before .before .before .before .before .before .before .before .args .masks) (omega arith)
     ∙ ap (λ (k : ℕ). derivedByMasks (programIn s .rules) k (l .mask + 1) (c .before .before .before .before .before .before .before .before .before .before .before .before .args .masks - (l .mask + 1)))
-      (ap (union (setOf (l .derived))) (ap (closure (Π-mask (l .mask) (programIn s .rules))) (sym (c .before .before .empty2 .ensures)) ∙ sym (c .before .close .ensures (programIn s) h)) ∙ sym (c .union .ensures))
+    (ap (union (setOf (l .derived))) (ap (closure (Π-mask (l .mask) (programIn s .rules))) (sym (c .before .before .empty2 .ensures)) ∙ sym (c .before .close .ensures (programIn s) h)) ∙ sym (c .union .ensures))
 
 count-requires : tie.Need-count-requires Inv-loop μ-loop
 count-requires c κs = search needs
