@@ -20,7 +20,7 @@ use Rattle.literals.proofs.Within.{within-each, each-within, within-le, meets-b
 use Rattle.program.specs.Program.{Rule, Program, defeasibles, Π-mask}
 use Rattle.program.specs.Limits.{Limits, Mask}
 use Rattle.derivation.specs.Derivation.{HeadsBelow}
-use Rattle.derivation.specs.Closure.{excludes}
+use Rattle.derivation.specs.Closure.{contradictory, excludes}
 use Rattle.derivation.proofs.Contradictions.{excludes-sym, excludes-derived}
 use Rattle.derivation.proofs.Choices.{Π-with-mono}
 use Rattle.argument.specs.Argument.{Subset, Argument, SubArgument, maskOf, literalOf}
@@ -39,7 +39,8 @@ use Rattle.defeat.proofs.Weighing.{any-same, any-none, among-none, amon
 -- ---- arguments that do not exclude each other
 
 -- an argument and one of those within its mask
-pub sub-apart : (rules : List Rule) (n m a b : ℕ) → Subset n m → Argument rules n a → Argument rules m b → excludes rules a b ≡ false
+pub sub-apart : (rules : List Rule) (n m a b : ℕ) → Subset n m → Argument rules n a → Argument rules m b
+    → excludes rules a b ≡ false
 sub-apart rules n m a b w aa ab = not-true-false (excludes rules a b) (λ e.
     false≢true
     (sym (argument-coherent rules m b ab)
@@ -65,8 +66,8 @@ module _ (p : Program) (limits : Limits p) where
   pub strict-apart : (x z : ℕ) → x < 128 → List·Memᴰ x (argumentList (p .rules)) → List·Memᴰ z (argumentList (p .rules))
       → excludes (p .rules) (literalOf x) (literalOf z) ≡ false
   strict-apart x z l i j =
-      sub-apart (p .rules) (maskOf x) (maskOf z) (literalOf x) (literalOf z) (empty-subset (maskOf x) (maskOf z) (omega arith))
-      (listed-argument x i) (listed-argument z j)
+      sub-apart (p .rules) (maskOf x) (maskOf z) (literalOf x) (literalOf z)
+      (empty-subset (maskOf x) (maskOf z) (omega arith)) (listed-argument x i) (listed-argument z j)
 
   -- The literals of y's sub-arguments are those that its mask derives: a set meets these exactly if it has the literal of
   -- a listed sub-argument.
@@ -82,11 +83,11 @@ module _ (p : Program) (limits : Limits p) where
       derived : ℕ
       derived = maskClosure (p .rules) (maskOf y)
 
-      ay : Argument (p .rules) (maskOf y) (literalOf y)
-      ay = listed-argument y i
+      coherent : contradictory (Π-mask (maskOf y) (p .rules)) ≡ false
+      coherent = argument-coherent (p .rules) (maskOf y) (literalOf y) (listed-argument y i)
 
       to : (k : ℕ) × (has s k ≡ true) × (has derived k ≡ true) → any (attackedBy s (maskOf y)) list ≡ true
-      to (k, a, b) = go (literal-sub-argument (p .rules) y heads-small (argument-coherent (p .rules) (maskOf y) (literalOf y) ay) k b)
+      to (k, a, b) = go (literal-sub-argument (p .rules) y heads-small coherent k b)
         where
           go : (z : ℕ) × SubArgument (p .rules) z y × (literalOf z ≡ k) → any (attackedBy s (maskOf y)) list ≡ true
           go (z, w, e) =
@@ -140,7 +141,8 @@ module _ {p : Program} {u : ℕ} {table closures exclusions arguments : List ℕ
       outside e =
           not-true-false (has row (literalOf z)) (λ q.
           false≢true (sym e ∙ ready .excluded .only (literalOf x) (literalOf z) this q))
-          ∙ sym (excludes-sym (p .rules) (literalOf x) (literalOf z) ∙ strict-apart p (ready .limits) z x (strict (decLt z 128)) lz lx)
+          ∙ sym (excludes-sym (p .rules) (literalOf x) (literalOf z)
+          ∙ strict-apart p (ready .limits) z x (strict (decLt z 128)) lz lx)
         where
           strict : Dec (z < 128) → z < 128
           strict (yes l) = l
@@ -151,7 +153,8 @@ module _ {p : Program} {u : ℕ} {table closures exclusions arguments : List ℕ
   attacked-same h z lz = ap (λ (t : Bool). within (maskOf z) (maskOf y) && t) (row-excludes h z lz)
 
   -- the early test: the row meets what y's mask derives exactly if x attacks a sub-argument of y
-  pub attacked-meets : 128 ≤ x → meets (excludedBy exclusions (literalOf x)) (closureAt closures (maskOf y)) ≡ any attacks list
+  pub attacked-meets : 128 ≤ x
+      → meets (excludedBy exclusions (literalOf x)) (closureAt closures (maskOf y)) ≡ any attacks list
   attacked-meets h =
       ap (meets (excludedBy exclusions (literalOf x))) derived-is
       ∙ sub-meets p (ready .limits) (excludedBy exclusions (literalOf x)) y ly
@@ -183,7 +186,8 @@ module _ {p : Program} {u : ℕ} {table closures exclusions arguments : List ℕ
     kind-apart h e = among ∙ among-none attacks over under list (sym (attacked-meets h) ∙ e)
 
     pub kind-weighed : 128 ≤ x
-        → kindAmong (attackedBy (excludedBy exclusions (literalOf x)) (maskOf y)) over under list ≡ kind (testsOf p preferred) x y
+        → kindAmong (attackedBy (excludedBy exclusions (literalOf x)) (maskOf y)) over under list
+        ≡ kind (testsOf p preferred) x y
     kind-weighed h =
         among-same (attackedBy (excludedBy exclusions (literalOf x)) (maskOf y)) attacks over under list (attacked-same h)
         ∙ sym among
@@ -219,7 +223,8 @@ module _ (rules : List Rule) (arguments : List ℕ) (count i : ℕ) (listed : ta
 
   pub entry-listed : List·Memᴰ (getD arguments i 0) (argumentList rules)
   entry-listed =
-      subst (λ (z : ℕ). List·Memᴰ z (argumentList rules)) entry-is (listed-at (argumentList rules) i (omega (arith, as-long)))
+      subst (λ (z : ℕ). List·Memᴰ z (argumentList rules)) entry-is
+      (listed-at (argumentList rules) i (omega (arith, as-long)))
 
   pub entry-first : drop i (argumentList rules) ≡ getD arguments i 0 ∷ drop (i + 1) (argumentList rules)
   entry-first =
@@ -230,7 +235,8 @@ module _ (rules : List Rule) (arguments : List ℕ) (count i : ℕ) (listed : ta
   pub entry-past : (s m : ℕ) → m < maskOf (getD arguments i 0) → (z : ℕ) → List·Memᴰ z (drop i (argumentList rules))
       → attackedBy s m z ≡ false
   entry-past s m h z j = not-true-false (attackedBy s m z) (λ q.
-      let low = ascends-rest (argumentList rules) 0 (2 ^ defeasibles rules * 128) i z (list-ascends rules) (omega (arith, as-long)) j in
+      let there : i < length (argumentList rules) = omega (arith, as-long) in
+      let low = ascends-rest (argumentList rules) 0 (2 ^ defeasibles rules * 128) i z (list-ascends rules) there j in
       let part = within-le (maskOf z) m (and-left (within (maskOf z) m) (has s (literalOf z)) q) in
       let e = entry-is in
       omega arith)

@@ -53,14 +53,14 @@ module _ (rules : List Rule) (u b derived : ℕ) where
   abbrev pub clashesBy : Bool
   clashesBy = has u b && clash (closure (Π rules) (insert derived b))
 
-  pub clashes-closed : (s c : ℕ) (h r : Bool) → h ≡ has u b → h ≡ true → s ≡ insert derived b → c ≡ closure (Π-mask 0 rules) s
-      → r ≡ clash c → r ≡ clashesBy
+  pub clashes-closed : (s c : ℕ) (h r : Bool) → h ≡ has u b → h ≡ true → s ≡ insert derived b
+      → c ≡ closure (Π-mask 0 rules) s → r ≡ clash c → r ≡ clashesBy
   clashes-closed s c h r eh t es ec er =
       er ∙ ap clash (ec ∙ ap₂ closure (Π-mask-empty rules) es)
       ∙ sym (ap (λ (x : Bool). x && clash (closure (Π rules) (insert derived b))) (sym eh ∙ t))
 
-  pub clashes-excludes : (a none one : ℕ) (r : Bool) → none ≡ 0 → one ≡ insert none a → derived ≡ closure (Π-mask 0 rules) one
-      → r ≡ clashesBy → r ≡ (has u b && excludes rules a b)
+  pub clashes-excludes : (a none one : ℕ) (r : Bool) → none ≡ 0 → one ≡ insert none a
+      → derived ≡ closure (Π-mask 0 rules) one → r ≡ clashesBy → r ≡ (has u b && excludes rules a b)
   clashes-excludes a none one r p q s e =
       e ∙ ap (λ (x : Bool). has u b && x)
       (excludes-from rules a b derived
@@ -102,7 +102,8 @@ rowTest rules u a b = has u b && excludes rules a b
 
 pub row-all : (rules : List Rule) (u a n s : ℕ) → u < 2 ^ 128 → 128 ≤ n → Upto (rowTest rules u a) n s → RowOf rules u a s
 row-all rules u a n s below l =
-    upto-all (rowTest rules u a) n s (λ k h. omega (arith, has-bound u 128 k below (and-left (has u k) (excludes rules a k) h)))
+    upto-all (rowTest rules u a) n s (λ k h.
+    omega (arith, has-bound u 128 k below (and-left (has u k) (excludes rules a k) h)))
 
 -- ---- the rows of all literals
 
@@ -117,7 +118,8 @@ module _ (e : List ℕ) (a lo hi : ℕ) (room : 2 * a + 1 < length e) where
   stored-same : excludedBy stored a ≡ joined hi lo
   stored-same =
       ap₂ joined (getD-set-same (set e (2 * a) lo) (2 * a + 1) hi 0 (simp length-set room))
-      (getD-set-other (set e (2 * a) lo) (2 * a + 1) (2 * a) hi 0 (λ q. omega arith) ∙ getD-set-same e (2 * a) lo 0 (omega arith))
+      (getD-set-other (set e (2 * a) lo) (2 * a + 1) (2 * a) hi 0 (λ q. omega arith)
+      ∙ getD-set-same e (2 * a) lo 0 (omega arith))
 
   stored-other : (b : ℕ) → b < a → excludedBy stored b ≡ excludedBy e b
   stored-other b l = ap₂ joined (kept (2 * b + 1) (omega arith)) (kept (2 * b) (omega arith))
@@ -127,7 +129,8 @@ module _ (e : List ℕ) (a lo hi : ℕ) (room : 2 * a + 1 < length e) where
           getD-set-other (set e (2 * a) lo) (2 * a + 1) k hi 0 (λ q. omega arith)
           ∙ getD-set-other e (2 * a) k lo 0 (λ q. omega arith)
 
-  rows-more : (rules : List Rule) (u : ℕ) → RowsTo rules u a e → RowOf rules u a (joined hi lo) → RowsTo rules u (a + 1) stored
+  rows-more : (rules : List Rule) (u : ℕ) → RowsTo rules u a e → RowOf rules u a (joined hi lo)
+      → RowsTo rules u (a + 1) stored
   rows-more rules u rows row =
       below-more _ a (λ b l h. subst (RowOf rules u b) (sym (stored-other b l)) (rows b l h))
       (λ h. subst (RowOf rules u a) (sym stored-same) row)
@@ -159,7 +162,8 @@ module _ (t : List ℕ) (u : ℕ) (e₀ : List ℕ) where
     rows = λ z p holds. below-more _ n (w .rows z p holds) (λ i. absurd (false≢true (sym h ∙ i)));
   }
 
-  pub filling-more : (e f : List ℕ) (n lo hi : ℕ) → n < 128 → ((p : Program) → Holds p t → RowOf (p .rules) u n (joined hi lo))
+  pub filling-more : (e f : List ℕ) (n lo hi : ℕ) → n < 128
+      → ((p : Program) → Holds p t → RowOf (p .rules) u n (joined hi lo))
       → f ≡ set (set e (2 * n) lo) (2 * n + 1) hi → Filling t u e₀ e n → Filling t u e₀ f (n + 1)
   filling-more e f n lo hi l row q w = rw q (record {
     kept = simp length-set (w .kept);
@@ -200,4 +204,5 @@ pub looked-all : (l : List ℕ) (u n m : ℕ) → n ≤ m → Looked l u m → C
 looked-all l u n m q w x i h = go (taken-at n l x i)
   where
     go : (k : ℕ) × (k < n) × (getD l k 0 ≡ x) → has u (literalOf x) ≡ true
-    go (k, j, e) = subst (λ (y : ℕ). has u (literalOf y) ≡ true) e (w k (omega arith) (subst (λ (y : ℕ). 128 ≤ y) (sym e) h))
+    go (k, j, e) =
+        subst (λ (y : ℕ). has u (literalOf y) ≡ true) e (w k (omega arith) (subst (λ (y : ℕ). 128 ≤ y) (sym e) h))

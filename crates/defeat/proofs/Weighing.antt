@@ -62,7 +62,8 @@ module _ (attack over under : ℕ → Bool) where
   -- a turn at z
   module _ (found z : ℕ) (l : List ℕ) where
     turn : (a o u : Bool) → attack z ≡ a → over z ≡ o → under z ≡ u
-        → kindLeft found (z ∷ l) ≡ kindFrom ((a && o) || any proper-at l) ((a && (not o && not u)) || any neither-at l) found
+        → kindLeft found (z ∷ l)
+        ≡ kindFrom ((a && o) || any proper-at l) ((a && (not o && not u)) || any neither-at l) found
     turn a o u p q r =
         ap₂ (λ (x y : Bool). kindFrom x y found) (ap₂ (λ (s t : Bool). (s && t) || any proper-at l) p q)
         (ap₂ (λ (s t : Bool). (s && t) || any neither-at l) p (ap₂ (λ (s t : Bool). not s && not t) q r))

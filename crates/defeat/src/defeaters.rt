@@ -43,18 +43,12 @@ pub fn kind(
     if x < 128 {
         return 0;
     }
+    let mask = numbers::mask_of(y);
     let excluded = exclusions::entry(exclusions, numbers::literal_of(x));
-    if !excluded.meets(closures::entry(closures, numbers::mask_of(y))) {
+    if !excluded.meets(closures::entry(closures, mask)) {
         return 0;
     }
-    weigh(
-        table,
-        arguments,
-        count,
-        excluded,
-        numbers::mask_of(x),
-        numbers::mask_of(y),
-    )
+    weigh(table, arguments, count, excluded, numbers::mask_of(x), mask)
 }
 
 // The kind of an argument with the mask x as a defeater of one with the mask y, where its literal excludes those of a set.
@@ -71,8 +65,8 @@ fn weigh(
     requires { ⌜ x < 2 ^ 16 ⌝ }
     ensures { λ r. ⌜ ((p : Program) → Limits p → Holds p (now (table .entry)) → Mask p x
         → take count (now (arguments .entry)) ≡ argumentList (p .rules)
-        → r ≡ kindAmong (attackedBy (setOf excluded) y) (λ z. preferredTest p x (maskOf z)) (λ z. preferredTest p (maskOf z) x)
-        (argumentList (p .rules))) ⌝ }
+        → r ≡ kindAmong (attackedBy (setOf excluded) y) (λ z. preferredTest p x (maskOf z))
+        (λ z. preferredTest p (maskOf z) x) (argumentList (p .rules))) ⌝ }
 {
     let mut found: u8 = 0;
     let mut i: usize = 0;

@@ -98,7 +98,8 @@ fn clashes(table: &RuleTable, u: LiteralSet, derived: LiteralSet, b: u64) -> boo
 // Writes the row of a literal.
 fn store(exclusions: &mut [u64; 256], literal: u64, excluded: LiteralSet)
     requires { ⌜ literal < 128 ⌝ }
-    ensures { λ _. ⌜ now (exclusions .exit) ≡ set (set (now (exclusions .entry)) (2 * literal) (excluded .lo)) (2 * literal + 1) (excluded .hi) ⌝ }
+    ensures { λ _. ⌜ now (exclusions .exit)
+        ≡ set (set (now (exclusions .entry)) (2 * literal) (excluded .lo)) (2 * literal + 1) (excluded .hi) ⌝ }
 {
     let at = (2 * literal) as usize;
     exclusions[at] = excluded.lo;

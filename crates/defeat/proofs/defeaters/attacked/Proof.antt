@@ -1,5 +1,5 @@
 -- `defeaters::attacked` meets its contract: the literal is looked at only where the mask is within y. Assumes nothing.
-use mathlib.Core.Path.{_≡_, sym, ap, ap₂, _∙_}
+use mathlib.Core.Path.{_≡_, sym, ap, _∙_}
 use mathlib.Core.Bool.{Bool, true, false, _&&_}
 use Prim.Native.Nat.{ℕ}
 use borrow.Author.Needs.{needs}
@@ -30,15 +30,18 @@ has-requires c κs = search needs
 
 returns : tie.Need-returns
 returns c =
-    let a = c .before .before .before .before .before .args in
-    passed (c .before .before .before .within .ensures ∙ ap (λ (m : ℕ). within m (a .y)) (c .before .before .before .before .mask-of .ensures)) (c .before .before .if1 .taken)
+    let w = c .before .before .before in
+    let a = w .before .before .args in
+    passed (w .within .ensures ∙ ap (λ (m : ℕ). within m (a .y)) (w .before .mask-of .ensures))
+    (c .before .before .if1 .taken)
     (c .has .ensures ∙ ap (has (setOf (a .excluded))) (c .before .literal-of .ensures .0))
 
 returns-2 : tie.Need-returns-2
 returns-2 c =
-    let a = c .before .before .before .args in
+    let w = c .before in
+    let a = w .before .before .args in
     failed (has (setOf (a .excluded)) (literalOf (a .z)))
-    (c .before .within .ensures ∙ ap (λ (m : ℕ). within m (a .y)) (c .before .before .mask-of .ensures)) (c .if1 .left)
+    (w .within .ensures ∙ ap (λ (m : ℕ). within m (a .y)) (w .before .mask-of .ensures)) (c .if1 .left)
 
 pub attacked-spec : {M : Type 1} → statement M
 attacked-spec =

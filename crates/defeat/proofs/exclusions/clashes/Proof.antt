@@ -31,7 +31,8 @@ contradictory-requires c κs = search needs
 
 returns-2 : tie.Need-returns-2
 returns-2 c p holds =
-    clashes-closed (p .rules) _ _ _ _ _ _ _ (c .before .before .before .before .has .ensures) (not-false _ (c .before .before .before .if1 .left)) (c .before .before .insert .ensures)
+    clashes-closed (p .rules) _ _ _ _ _ _ _ (c .before .before .before .before .has .ensures)
+    (not-false _ (c .before .before .before .if1 .left)) (c .before .before .insert .ensures)
     (c .before .close .ensures p holds) (c .contradictory .ensures)
 
 pub clashes-spec : {M : Type 1} → statement M

@@ -32,7 +32,9 @@ loop-less : tie.Need-loop-less Inv-loop μ-loop
 loop-less c = search needs
 
 loop-again : tie.Need-loop-again Inv-loop μ-loop
-loop-again c = looked-skip (c .before .before .before .before .before .before .args .arguments .now) _ _ (c .before .before .before .loop .inv) (c .if1 .taken)
+loop-again c =
+    let l = c .before .before .before in
+    looked-skip (l .before .before .before .args .arguments .now) _ _ (l .loop .inv) (c .if1 .taken)
 
 literal-of-requires : tie.Need-literal-of-requires Inv-loop μ-loop
 literal-of-requires c κs = search needs
@@ -45,10 +47,14 @@ loop-less-2 c = search needs
 
 loop-again-2 : tie.Need-loop-again-2 Inv-loop μ-loop
 loop-again-2 c =
-    looked-more (c .before .before .before .before .before .before .before .before .args .arguments .now) _ _ (c .before .before .before .before .before .loop .inv) _ _ (c .before .literal-of .ensures .0) (c .insert .ensures)
+    let l = c .before .before .before .before .before in
+    looked-more (l .before .before .before .args .arguments .now) _ _ (l .loop .inv) _ _
+    (c .before .literal-of .ensures .0) (c .insert .ensures)
 
 returns : tie.Need-returns Inv-loop μ-loop
-returns c = looked-all (c .before .before .before .before .args .arguments .now) _ _ (c .before .loop .i) (c .loop-test .left) (c .before .loop .inv)
+returns c =
+    let l = c .before in
+    looked-all (l .before .before .before .args .arguments .now) _ _ (l .loop .i) (c .loop-test .left) (l .loop .inv)
 
 pub conclusions-spec : {M : Type 1} → statement M
 conclusions-spec =

@@ -28,7 +28,9 @@ loop-less : tie.Need-loop-less Inv-loop μ-loop
 loop-less c = search needs
 
 loop-again : tie.Need-loop-again Inv-loop μ-loop
-loop-again c = filling-skip _ _ _ _ (c .before .before .before .loop .a) (sym (c .before .has .ensures) ∙ not-true _ (c .if1 .taken)) (c .before .before .before .loop .inv)
+loop-again c =
+    let l = c .before .before .before in
+    filling-skip _ _ _ _ (l .loop .a) (sym (c .before .has .ensures) ∙ not-true _ (c .if1 .taken)) (l .loop .inv)
 
 row-requires : tie.Need-row-requires Inv-loop μ-loop
 row-requires c κs = search needs
@@ -45,13 +47,16 @@ loop-less-2 c = search needs
 loop-again-2 : tie.Need-loop-again-2 Inv-loop μ-loop
 unfolding setOf
 loop-again-2 c =
-    filling-more _ _ _ _ _ (c .before .before .before .before .before .before .loop .a) _ _ (c .before .before .before .before .before .loop-test .taken) (c .before .before .row .ensures) (c .store .ensures) (c .before .before .before .before .before .before .loop .inv)
+    let l = c .before .before .before .before .before .before in
+    filling-more _ _ _ _ _ (l .loop .a) _ _ (c .before .before .before .before .before .loop-test .taken)
+    (c .before .before .row .ensures) (c .store .ensures) (l .loop .inv)
 
 returns : tie.Need-returns Inv-loop μ-loop
 unfolding setOf
 returns c =
     let u = c .before .before .args .u in
-    filling-all _ _ _ _ (c .before .loop .a) (joined-below (u .hi) (u .lo) (search needs) (search needs)) (c .loop-test .left) (c .before .loop .inv)
+    let below = joined-below (u .hi) (u .lo) (search needs) (search needs) in
+    filling-all _ _ _ _ (c .before .loop .a) below (c .loop-test .left) (c .before .loop .inv)
 
 pub fill-spec : {M : Type 1} → statement M
 fill-spec =

@@ -1,4 +1,4 @@
--- `exclusions::row` meets its contract: of the literals that are passed those that are found clash with a. Assumes nothing.
+-- `exclusions::row` meets its contract: of the literals that are passed those that are found exclude a. Assumes nothing.
 use mathlib.Core.Path.{sym, _∙_}
 use Prim.Native.Nat.{_-_}
 use borrow.Author.Tests.{not-true, not-false}
@@ -44,8 +44,12 @@ loop-less c = search needs
 
 loop-again : tie.Need-loop-again Inv-loop μ-loop
 loop-again c p holds =
-    let test = clashes-excludes (p .rules) _ (c .before .before .before .loop .b) _ _ _ _ _ (c .before .before .before .before .before .before .before .empty .ensures) (c .before .before .before .before .before .before .insert .ensures) (c .before .before .before .before .before .close .ensures p holds) (c .before .clashes .ensures p holds) in
-    upto-skip _ (c .before .before .before .loop .b) _ (sym test ∙ not-true _ (c .if1 .taken)) (c .before .before .before .loop .inv p holds)
+    let l = c .before .before .before in
+    let b = l .loop .b in
+    let derived = l .before .before .close .ensures p holds in
+    let test = clashes-excludes (p .rules) _ b _ _ _ _ _ (l .before .before .before .before .empty .ensures)
+    (l .before .before .before .insert .ensures) derived (c .before .clashes .ensures p holds) in
+    upto-skip _ b _ (sym test ∙ not-true _ (c .if1 .taken)) (l .loop .inv p holds)
 
 insert-requires-2 : tie.Need-insert-requires-2 Inv-loop μ-loop
 insert-requires-2 c κs = search needs
@@ -58,15 +62,19 @@ loop-less-2 c = search needs
 
 loop-again-2 : tie.Need-loop-again-2 Inv-loop μ-loop
 loop-again-2 c p holds =
-    let test = clashes-excludes (p .rules) _ (c .before .before .before .before .loop .b) _ _ _ _ _ (c .before .before .before .before .before .before .before .before .empty .ensures) (c .before .before .before .before .before .before .before .insert .ensures) (c .before .before .before .before .before .before .close .ensures p holds) (c .before .before .clashes .ensures p holds) in
-    upto-more _ (c .before .before .before .before .loop .b) _ _ (sym test ∙ not-false _ (c .before .if1 .left)) (c .insert2 .ensures) (c .before .before .before .before .loop .inv p holds)
+    let l = c .before .before .before .before in
+    let b = l .loop .b in
+    let derived = l .before .before .close .ensures p holds in
+    let test = clashes-excludes (p .rules) _ b _ _ _ _ _ (l .before .before .before .before .empty .ensures)
+    (l .before .before .before .insert .ensures) derived (c .before .before .clashes .ensures p holds) in
+    upto-more _ b _ _ (sym test ∙ not-false _ (c .before .if1 .left)) (c .insert2 .ensures) (l .loop .inv p holds)
 
 returns : tie.Need-returns Inv-loop μ-loop
 unfolding setOf
 returns c p holds =
     let u = c .before .before .before .before .before .before .args .u in
-    row-all (p .rules) _ _ (c .before .loop .b) _ (joined-below (u .hi) (u .lo) (search needs) (search needs)) (c .loop-test .left)
-    (c .before .loop .inv p holds)
+    let below = joined-below (u .hi) (u .lo) (search needs) (search needs) in
+    row-all (p .rules) _ _ (c .before .loop .b) _ below (c .loop-test .left) (c .before .loop .inv p holds)
 
 pub row-spec : {M : Type 1} → statement M
 row-spec =
