@@ -2,10 +2,10 @@
 -- Assumes nothing.
 use mathlib.Core.Bool.{not, _&&_}
 use mathlib.Core.List.{List·Memᴰ}
-use mathlib.Core.Logic.{_⊎_, inl, inr}
+use mathlib.Core.Logic.{inl, inr}
 use Rattle.lists.specs.Decides.{Decides}
 use Rattle.lists.proofs.Lists.{filter-intro, filter-found}
-use Rattle.lists.proofs.Decides.{decides-known, decides-not, decides-iff, decides-and, decides-any}
+use Rattle.lists.proofs.Decides.{decides-not, decides-iff, decides-and, decides-any}
 use Rattle.defeat.specs.Frame.{Frame}
 use Rattle.defeat.specs.Defeat.{AttacksAt, ProperDefeater, BlockingDefeater, Defeater}
 use Rattle.defeat.specs.Tests.{Tests, attacked, proper, neither, blocking}
@@ -63,13 +63,6 @@ module _ {A : Type 0} {F : Frame A} {t : Tests A} (R : Renders F t)
       (λ b. (b .otherwise, (b .at, attacked-intro (b .attacks), (b .not-preferred, b .not-preferred-to))))
       (decides-and (decides-not proper-renders) neither-renders)
 
-  -- what `Laws` asks for, from the tests
-  pub proper-known : Dec (ProperDefeater F x y)
-  proper-known = decides-known proper-renders
-
-  pub preferred-known : Dec (F .Preferred x y)
-  preferred-known = decides-known (R .preferred x y ax ay)
-
 -- ---- of two arguments that exclude each other, one defeats the other
 
 -- a defeater attacks somewhere
@@ -78,9 +71,16 @@ defeater-attacks (inl p) = (p .at, p .attacks)
 defeater-attacks (inr b) = (b .at, b .attacks)
 
 module _ {A : Type 0} {F : Frame A} (L : Laws F) where
-  -- if y is preferred, it is a proper defeater; if not, x is a defeater of one kind or the other
-  pub defeater-either : (x y : A) → F .Argument x → F .Argument y → F .Excludes x y → Defeater F x y ⊎ Defeater F y x
-  defeater-either x y ax ay e = go (L .preferred-known y x ay ax) (L .proper-known x y ax ay)
+  -- Were neither a defeater of the other, then y would not be preferred and x not proper, so that x would be blocking.
+  -- Said in this way, it needs no test of preference.
+  pub defeater-one : (x y : A) → F .Argument x → F .Argument y → F .Excludes x y → ¬ Defeater F x y → ¬ Defeater F y x → ⊥
+  defeater-one x y ax ay e n m = n (inr (record {
+    otherwise = λ p. n (inl p);
+    at = y;
+    attacks = there;
+    not-preferred = λ p. n (inl (record { at = y; attacks = there; preferred = p }));
+    not-preferred-to = λ p. m (inl (record { at = x; attacks = back; preferred = p }));
+  }))
     where
       -- each attacks the other at the whole of it
       there : AttacksAt F x y y
@@ -88,14 +88,3 @@ module _ {A : Type 0} {F : Frame A} (L : Laws F) where
 
       back : AttacksAt F y x x
       back = record { argument = ax; sub = L .sub-refl x ax; excludes = L .excludes-sym x y e }
-
-      go : Dec (F .Preferred y x) → Dec (ProperDefeater F x y) → Defeater F x y ⊎ Defeater F y x
-      go (yes p) d = inr (inl (record { at = x; attacks = back; preferred = p }))
-      go (no n) (yes p) = inl (inl p)
-      go (no n) (no m) = inl (inr (record {
-        otherwise = m;
-        at = y;
-        attacks = there;
-        not-preferred = λ p. m (record { at = y; attacks = there; preferred = p });
-        not-preferred-to = n;
-      }))

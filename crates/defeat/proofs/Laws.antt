@@ -1,9 +1,8 @@
--- What the theorems ask of a frame. Nothing is asked of preference but that it can be decided: no order, not even that
--- two arguments are never preferred over each other. Assumes nothing.
+-- What the theorems ask of a frame: five laws. Nothing is asked of preference: no order, not even that two arguments are
+-- never preferred over each other. Assumes nothing.
 use mathlib.Core.List.{List, [], _∷_, List·Memᴰ}
 use Rattle.lists.specs.Lists.{Within}
 use Rattle.defeat.specs.Frame.{Frame}
-use Rattle.defeat.specs.Defeat.{ProperDefeater}
 
 module _ {A : Type 0} (F : Frame A) where
   pub record Laws : Type 0 where
@@ -17,6 +16,3 @@ module _ {A : Type 0} (F : Frame A) where
     pub concordant-apart : (l : List A) (x w y z : A) → F .Concordant l → List·Memᴰ x l → List·Memᴰ w l
         → F .Argument y → F .Argument z → F .SubArgument y x → F .SubArgument z w → F .Excludes y z → ⊥
     pub excludes-sym : (x y : A) → F .Excludes x y → F .Excludes y x
-    -- for constructive logic: a defeater is proper or not, an argument preferred or not
-    pub proper-known : (x y : A) → F .Argument x → F .Argument y → Dec (ProperDefeater F x y)
-    pub preferred-known : (x y : A) → F .Argument x → F .Argument y → Dec (F .Preferred x y)

@@ -4,3 +4,4 @@ pub mod Renders
 pub mod Defeat
 pub mod Kind
 pub mod Preferences
+pub mod OfProgram

@@ -1,5 +1,6 @@
--- Attack and defeat, as published and as computed.
+-- Attack and defeat, as published and as computed: of any frame, then of a program.
 pub mod Frame
 pub mod Defeat
 pub mod Tests
 pub mod Preference
+pub mod OfProgram

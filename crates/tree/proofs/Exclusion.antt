@@ -12,7 +12,7 @@ use Rattle.lists.proofs.Lists.{within-nil, within-cons}
 use Rattle.defeat.specs.Frame.{Frame}
 use Rattle.defeat.specs.Defeat.{Defeater}
 use Rattle.defeat.proofs.Laws.{Laws}
-use Rattle.defeat.proofs.Defeat.{defeater-attacks, defeater-either}
+use Rattle.defeat.proofs.Defeat.{defeater-attacks, defeater-one}
 use Rattle.tree.specs.Line.{Line, root, reply, NoneWithinEarlier, ProperAfterBlocking, AcceptableLine}
 use Rattle.tree.specs.Marks.{Mark, U, D, Child, Marked, undefeated, defeated, UndefeatedRoot}
 use Rattle.tree.specs.Reply.{mine, theirs}
@@ -160,8 +160,6 @@ module _ {A : Type 0} {F : Frame A} (L : Laws F) (b : A) where
 
 pub exclusive-roots : {A : Type 0} {F : Frame A} → Laws F → (a b : A) → F .Argument a → F .Argument b → F .Excludes a b
     → UndefeatedRoot F a → UndefeatedRoot F b → ⊥
-exclusive-roots {A} {F} L a b aa ab e u v = go (defeater-either L a b aa ab e)
-  where
-    go : Defeater F a b ⊎ Defeater F b a → ⊥
-    go (inl d) = marked-apart v (root-defeated L b a aa ab e d u)
-    go (inr d) = marked-apart u (root-defeated L a b ab aa (L .excludes-sym a b e) d v)
+exclusive-roots L a b aa ab e u v = defeater-one L a b aa ab e
+    (λ d. marked-apart v (root-defeated L b a aa ab e d u))
+    (λ d. marked-apart u (root-defeated L a b ab aa (L .excludes-sym a b e) d v))

@@ -1,0 +1,5 @@
+-- The theorems on answers and calls.
+pub mod Warrant
+pub mod Answers
+pub mod Refusals
+pub mod Fittings

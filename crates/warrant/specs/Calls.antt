@@ -1,0 +1,142 @@
+-- What each public call returns and what it leaves in each lent table, from the image's bytes (document 01, "Answers" and
+-- "Causes for turning an order away").
+use mathlib.Core.Path.{_≡_}
+use mathlib.Core.List.{List, [], _++_, map}
+use Prim.Native.Nat.{ℕ, _+_, _*_, _/_}
+use lib.ListN.{length, drop, replicate}
+use lib.Dec.{ltb, leb}
+use Rattle.program.specs.Program.{Π}
+use Rattle.image.specs.declared.Verdict.{Verdict}
+use Rattle.image.specs.declared.Verdict.the-variants as verdicts
+use Rattle.image.specs.Causes.{refuse, andThen, verdict}
+use Rattle.image.specs.Reading.{programIn}
+use Rattle.derivation.specs.Closure.{contradictory}
+use Rattle.argument.specs.List.{argumentList}
+use Rattle.tree.specs.Entries.{Entry}
+use Rattle.warrant.specs.declared.Answer.{Answer}
+use Rattle.warrant.specs.declared.Answer.the-variants.{Yes, No, Undecided, Unknown, Unfinished, Refused}
+use Rattle.warrant.specs.declared.Listed.{Listed}
+use Rattle.warrant.specs.declared.Listed.the-variants as lists
+use Rattle.warrant.specs.declared.Node.{Node}
+use Rattle.warrant.specs.Answer.{tests, forestEntries, answer, codeOf}
+
+-- ---- check an image
+
+-- "Checked in the order listed: 1 to 3; 4 to 10 for each rule in turn; 11; 12 and 13 for each pair in turn; 14": "Π
+-- contradictory"
+unfoldable pub checkImage : List ℕ → Verdict
+checkImage s = andThen (verdict s) (refuse (contradictory (Π (programIn s .rules))) 14 0)
+
+-- ---- list arguments
+
+-- "After every answer the argument table begins with the list."
+abbrev pub listIn : List ℕ → List ℕ
+listIn s = argumentList (programIn s .rules)
+
+-- 23: "More arguments than the argument table holds", where it holds `room`
+unfoldable pub listVerdict : List ℕ → ℕ → Verdict
+listVerdict s room = andThen (checkImage s) (refuse (ltb room (length (listIn s))) 23 0)
+
+-- "listing returns the argument count and writes the list"
+abbrev pub listedBy : Verdict → ℕ → Listed
+listedBy verdicts.Accepted n = lists.Count n
+listedBy (verdicts.Refused number place) n = lists.Refused number place
+
+unfoldable pub listed : List ℕ → ℕ → Listed
+listed s room = listedBy (listVerdict s room) (length (listIn s))
+
+-- a table that begins with a list; "Entries past those named keep their contents."
+abbrev pub front : {A : Type 0} → List A → List A → List A
+front l table = l ++ drop (length l) table
+
+-- "Left as it was: all tables", where a cause applies
+abbrev pub unlessRefused : {A : Type 0} → Verdict → A → A → A
+unlessRefused verdicts.Accepted after before = after
+unlessRefused (verdicts.Refused number place) after before = before
+
+unfoldable pub listTable : List ℕ → List ℕ → List ℕ
+listTable s table = unlessRefused (listVerdict s (length table)) (front (listIn s) table) table
+
+-- ---- query
+
+-- "then 20 to 23": "Query literal 128 or more", "Budget over 4,096", "Node table shorter than the budget", "More arguments
+-- than the argument table holds"
+unfoldable pub queryVerdict : List ℕ → (literal budget argumentRoom nodeRoom : ℕ) → Verdict
+queryVerdict s h budget argumentRoom nodeRoom =
+    andThen (checkImage s)
+    (andThen (refuse (leb 128 h) 20 0)
+    (andThen (refuse (ltb 4096 budget) 21 0)
+    (andThen (refuse (ltb nodeRoom budget) 22 0)
+    (refuse (ltb argumentRoom (length (listIn s))) 23 0))))
+
+abbrev pub answeredBy : Verdict → Answer → Answer
+answeredBy verdicts.Accepted a = a
+answeredBy (verdicts.Refused number place) a = Refused number place
+
+-- "UNKNOWN comes after 23."
+unfoldable pub queried : List ℕ → (literal budget argumentRoom nodeRoom : ℕ) → Answer
+queried s h budget argumentRoom nodeRoom =
+    answeredBy (queryVerdict s h budget argumentRoom nodeRoom) (answer (programIn s) h budget)
+
+-- the argument table: "After every answer the argument table begins with the list."
+unfoldable pub queryArguments : List ℕ → (literal budget : ℕ) → List ℕ → (nodeRoom : ℕ) → List ℕ
+queryArguments s h budget table nodeRoom =
+    unlessRefused (queryVerdict s h budget (length table) nodeRoom) (front (listIn s) table) table
+
+-- a node table, or one column of it, after an answer: "The first N entries hold the forest."; "The first budget entries
+-- are zeroed."; "Node table untouched."
+abbrev pub nodesAfter : {A : Type 0} → Answer → List A → A → List A → List A
+nodesAfter (Yes n) forest empty table = front forest table
+nodesAfter (No n) forest empty table = front forest table
+nodesAfter (Undecided n) forest empty table = front forest table
+nodesAfter Unknown forest empty table = table
+nodesAfter (Unfinished n) forest empty table = front (replicate n empty) table
+nodesAfter (Refused number place) forest empty table = table
+
+-- "each with: index in the argument list; parent's node number ..; kind ..; mark"
+abbrev pub nodeOf : Entry → Node
+nodeOf e = record { argument = e .argument; parent = e .parent; kind = e .kind; mark = e .mark }
+
+abbrev pub zeroed : Entry
+zeroed = record { argument = 0; parent = 0; kind = 0; mark = 0 }
+
+-- what a field of the entries, or the whole entry, leaves in a table of its own: four tables of numbers, or one of nodes
+unfoldable pub queryTable : {A : Type 0} → (Entry → A) → List ℕ → (literal budget argumentRoom : ℕ) → List A → List A
+queryTable field s h budget argumentRoom table =
+    nodesAfter (queried s h budget argumentRoom (length table)) (map field (forestEntries (tests (programIn s)) h)) (field zeroed)
+    table
+
+abbrev pub queryNodes : List ℕ → (literal budget argumentRoom : ℕ) → List Node → List Node
+queryNodes = queryTable nodeOf
+
+-- ---- the call from the host program in C
+
+-- "It returns code × 65,536 + nodes, or a bare refusal number."
+abbrev pub packed : Answer → ℕ
+packed (Yes n) = 1 * 65536 + n
+packed (No n) = 2 * 65536 + n
+packed (Undecided n) = 3 * 65536 + n
+packed Unknown = 4 * 65536
+packed (Unfinished n) = 5 * 65536 + n
+packed (Refused number place) = number
+
+-- "which brings its own two tables of 4,096 entries, zeroed"
+unfoldable pub hostCall : List ℕ → (literal budget : ℕ) → ℕ
+hostCall s h budget = packed (queried s h budget 4096 4096)
+
+-- ---- the calls that give a literal's answer
+
+-- "each may be any call that gives a literal's answer, as these two do, with any budget and, where tables are lent, tables
+-- of any length and contents"
+pub data Call : Type 0 where
+  query : (literal budget argumentRoom nodeRoom : ℕ) → Call
+  host : (literal budget : ℕ) → Call
+
+abbrev pub literalAsked : Call → ℕ
+literalAsked (query h budget argumentRoom nodeRoom) = h
+literalAsked (host h budget) = h
+
+-- the call says YES to its literal
+abbrev pub SaysYes : List ℕ → Call → Type 0
+SaysYes s (query h budget argumentRoom nodeRoom) = codeOf (queried s h budget argumentRoom nodeRoom) ≡ 1
+SaysYes s (host h budget) = hostCall s h budget / 65536 ≡ 1

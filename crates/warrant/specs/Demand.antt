@@ -1,0 +1,41 @@
+-- Demand 3 as one claim, of warrant as defined and of the calls: literals that exclude each other are never both
+-- warranted, nor both answered YES. Nothing says that the two literals differ.
+use mathlib.Core.Path.{_≡_}
+use mathlib.Core.List.{List}
+use mathlib.Core.Logic.{_↔_}
+use Prim.Native.Nat.{ℕ, _≤_}
+use Rattle.program.specs.Program.{Program}
+use Rattle.image.specs.declared.Verdict.{Verdict}
+use Rattle.image.specs.declared.Verdict.the-variants.{Accepted}
+use Rattle.image.specs.Reading.{programIn}
+use Rattle.defeat.specs.OfProgram.{Exclude}
+use Rattle.warrant.specs.Warrant.{WarrantedBy, Warranted}
+use Rattle.warrant.specs.Answer.{tests, nodeCount}
+use Rattle.warrant.specs.Calls.{queryVerdict, Call, query, host, literalAsked, SaysYes}
+
+abbrev pub budgetOf : Call → ℕ
+budgetOf (query h budget argumentRoom nodeRoom) = budget
+budgetOf (host h budget) = budget
+
+-- accepted, or the first cause that turns the call away
+abbrev pub verdictOf : List ℕ → Call → Verdict
+verdictOf s (query h budget argumentRoom nodeRoom) = queryVerdict s h budget argumentRoom nodeRoom
+verdictOf s (host h budget) = queryVerdict s h budget 4096 4096
+
+-- when a call is to say YES: it is not turned away, N is within its budget, its literal is warranted
+pub record Grants (s : List ℕ) (c : Call) : Type 0 where
+  pub accepted : verdictOf s c ≡ Accepted
+  pub within-budget : nodeCount (tests (programIn s)) (literalAsked c) ≤ budgetOf c
+  pub warranted : Warranted (programIn s) (literalAsked c)
+
+pub record Demand-3 : Type 1 where
+  -- of warrant, for every program and any preference between masks
+  pub of-warrant : (p : Program) (Pref : ℕ → ℕ → Type 0) (h k : ℕ) → Exclude (p .rules) h k
+      → WarrantedBy p Pref h → WarrantedBy p Pref k → ⊥
+  -- and at document 01's
+  pub of-document : (p : Program) (h k : ℕ) → Exclude (p .rules) h k → Warranted p h → Warranted p k → ⊥
+  -- the calls say YES to what is warranted
+  pub calls-grant : (image : List ℕ) (c : Call) → SaysYes image c ↔ Grants image c
+  -- of the calls, any two on one image
+  pub of-calls : (image : List ℕ) (c d : Call) → Exclude (programIn image .rules) (literalAsked c) (literalAsked d)
+      → SaysYes image c → SaysYes image d → ⊥
