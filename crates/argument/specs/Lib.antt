@@ -1,4 +1,5 @@
--- What an argument is, and the list of all arguments.
+-- What an argument is, the list of all arguments, and the closure table that they are read from.
 pub mod Argument
 pub mod List
 pub mod Fresh
+pub mod Closures

@@ -1,1 +1,2 @@
 // The arguments of a program, and their list.
+pub mod closures;
