@@ -5,3 +5,6 @@ pub mod Forest
 pub mod Entries
 pub mod Marks
 pub mod Exclusion
+pub mod Stores
+pub mod Tables
+pub mod Progress

@@ -18,7 +18,7 @@ use Rattle.defeat.proofs.Defeat.{proper-renders, blocking-renders}
 use Rattle.defeat.proofs.Kind.{kind-bound, kind-one-test, kind-two-test, kind-proper, kind-blocking, kind-defeater}
 use Rattle.tree.specs.Line.{reply, ProperAfterBlocking, AcceptableLine}
 use Rattle.tree.specs.Marks.{Child}
-use Rattle.tree.specs.Reply.{theirs, permit, unused, mayFollow, joins, replyKind}
+use Rattle.tree.specs.Reply.{theirs, permit, unused, mayFollow, joins, replyKind, lastKind}
 use Rattle.tree.proofs.Line.{sides-within, line-arguments, line-last, acceptable-mine, acceptable-by-sides}
 
 -- ---- what an acceptable line asks of one more argument: the conditions on the shorter line are known
@@ -63,12 +63,6 @@ module _ {A : Type 0} {F : Frame A} {y x : A} {l : List A} where
   }
 
 -- ---- the test by the kinds that a tree's nodes have
-
--- a root has kind 0
-abbrev pub lastKind : {A : Type 0} → Tests A → List A → ℕ
-lastKind t [] = 0
-lastKind t (x ∷ []) = 0
-lastKind t (x ∷ w ∷ l) = kind t x w
 
 pub mayFollow-kinds : {A : Type 0} (t : Tests A) (x : A) (l : List A) (y : A)
     → mayFollow t (x ∷ l) y ≡ not (eqb (lastKind t (x ∷ l)) 2) || eqb (kind t y x) 1

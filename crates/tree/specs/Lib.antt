@@ -1,7 +1,9 @@
--- Argumentation lines, dialectical trees and marks: as published (Line, Marks), then as computed (Reply, Forest,
--- Entries).
+-- Argumentation lines, dialectical trees and marks: as published (Line, Marks), as computed (Reply, Forest, Entries,
+-- OfLiteral), and in lent tables (Tables).
 pub mod Line
 pub mod Marks
 pub mod Reply
 pub mod Forest
 pub mod Entries
+pub mod OfLiteral
+pub mod Tables
