@@ -8,3 +8,7 @@ pub mod Exclusion
 pub mod Stores
 pub mod Tables
 pub mod Progress
+pub mod Growing
+pub mod Steps
+pub mod Listings
+pub mod Turn

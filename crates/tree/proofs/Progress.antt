@@ -45,11 +45,11 @@ module _ {all left : List Entry} {start limit next : ℕ} {before t : Columns} (
           high = h;
           count = omega (arith, p .count, lengths);
           go =
-            ap (written end rest) w
-            ∙ ap (λ (n : ℕ). written n rest (written next run t)) e
-            ∙ sym (written-append t next run rest)
-            ∙ ap (λ (l : List Entry). written next l t) (sym first)
-            ∙ p .go;
+              ap (written end rest) w
+              ∙ ap (λ (n : ℕ). written n rest (written next run t)) e
+              ∙ sym (written-append t next run rest)
+              ∙ ap (λ (l : List Entry). written next l t) (sym first)
+              ∙ p .go;
           kept = ap (past limit) w ∙ written-past t next run limit (omega arith) ∙ p .kept;
         }
 

@@ -100,6 +100,13 @@ module _ {A : Type 0} (t : Tests A) where
       let h = permit-both (kind t y x) (joins t (x ∷ l) y) n .1 in
       and-both (unused t (x ∷ l) y) (mayFollow t (x ∷ l) y && t .concordant (y ∷ theirs (x ∷ l))) h .0
 
+  -- a child's number is the kind that it has as the last argument of its line
+  pub reply-last : (l : List A) (y : A) → replyKind t l y ≢ 0 → replyKind t l y ≡ lastKind t (y ∷ l)
+  unfolding replyKind
+  reply-last [] y n = absurd (n refl)
+  reply-last (x ∷ l) y n =
+      permit-passed (kind t y x) (joins t (x ∷ l) y) (permit-both (kind t y x) (joins t (x ∷ l) y) n .1)
+
 -- ---- each test of a candidate, for a line of arguments
 
 module _ {A : Type 0} {F : Frame A} {t : Tests A} (R : Renders F t) where

@@ -1,5 +1,5 @@
 -- Argumentation lines, dialectical trees and marks: as published (Line, Marks), as computed (Reply, Forest, Entries,
--- OfLiteral), and in lent tables (Tables).
+-- OfLiteral), and in lent tables (Tables, Steps).
 pub mod Line
 pub mod Marks
 pub mod Reply
@@ -7,3 +7,4 @@ pub mod Forest
 pub mod Entries
 pub mod OfLiteral
 pub mod Tables
+pub mod Steps
