@@ -10,22 +10,27 @@ use Rattle.derivation.specs.Derivation.{HeadsBelow}
 use Rattle.derivation.specs.Closure.{derives, contradictory}
 use Rattle.argument.specs.Argument.{Argument}
 use Rattle.argument.specs.List.{derivesWithout, noneWithout, isArgument}
-use Rattle.argument.specs.Fresh.{maskClosure, derivedWithout, fresh}
+use Rattle.argument.specs.Fresh.{maskClosure, unionOver, derivedWithout, freshBy, fresh}
 use Rattle.argument.proofs.Minimal.{isArgument-sound, isArgument-complete}
 
 module _ (rules : List Rule) (m h : ℕ) where
   -- h is in the union exactly if some rule can be left out
-  pub derivedWithout-none : (n : ℕ) → not (has (derivedWithout rules m n) h) ≡ noneWithout rules m h n
-  unfolding derivedWithout noneWithout
+  pub derivedWithout-none : (n : ℕ) → not (has (derivedWithout (maskClosure rules) m n) h) ≡ noneWithout rules m h n
+  unfolding unionOver noneWithout
   derivedWithout-none zero = ap not (has-empty h)
   derivedWithout-none (suc b) = go (has m b) (derivedWithout-none b)
     where
-      go : (t : Bool) → not (has (derivedWithout rules m b) h) ≡ noneWithout rules m h b
-          → not (has (choose t (union (maskClosure rules (minus m (2 ^ b))) (derivedWithout rules m b)) (derivedWithout rules m b)) h)
-          ≡ (not (t && derivesWithout rules m b h) && noneWithout rules m h b)
+      this : ℕ
+      this = maskClosure rules (minus m (2 ^ b))
+
+      less : ℕ
+      less = derivedWithout (maskClosure rules) m b
+
+      go : (t : Bool) → not (has less h) ≡ noneWithout rules m h b
+          → not (has (choose t (union this less) less) h) ≡ (not (t && derivesWithout rules m b h) && noneWithout rules m h b)
       go true e =
-          ap not (has-union (maskClosure rules (minus m (2 ^ b))) (derivedWithout rules m b) h)
-          ∙ not-or (derivesWithout rules m b h) (has (derivedWithout rules m b) h)
+          ap not (has-union this less h)
+          ∙ not-or (derivesWithout rules m b h) (has less h)
           ∙ ap (λ (t : Bool). not (derivesWithout rules m b h) && t) e
         where
           not-or : (x y : Bool) → not (x || y) ≡ (not x && not y)
@@ -34,11 +39,11 @@ module _ (rules : List Rule) (m h : ℕ) where
       go false e = e
 
   pub fresh-isArgument : has (fresh rules m) h ≡ isArgument rules m h
-  unfolding fresh isArgument
+  unfolding freshBy isArgument
   fresh-isArgument = go (contradictory (Π-mask m rules))
     where
       less : ℕ
-      less = derivedWithout rules m (defeasibles rules)
+      less = derivedWithout (maskClosure rules) m (defeasibles rules)
 
       nothing : (t : Bool) → (t && false) ≡ false
       nothing true = refl

@@ -2,5 +2,9 @@
 pub mod MaskClosures
 pub mod Minimal
 pub mod Lists
+pub mod Tables
+pub mod Entries
+mod Fills
+pub mod Unions
 pub mod FreshSets
 pub mod SubArguments

@@ -1,13 +1,15 @@
 -- The closure table: two words for each mask, and what they say. Assumes nothing.
 use mathlib.Core.Path.{_≡_}
-use mathlib.Core.Bool.{false}
+use mathlib.Core.Bool.{Bool, false, not, _&&_}
 use mathlib.Core.List.{List}
 use Prim.Native.Nat.{ℕ, _+_, _*_, _^_, _<_, _≤_}
 use lib.ListN.{length, getD}
-use Rattle.literals.specs.Sets.{clash}
+use Rattle.literals.specs.Sets.{has, within, clash}
 use Rattle.literals.specs.Words.{joined}
 use Rattle.program.specs.Program.{Rule}
-use Rattle.argument.specs.Fresh.{maskClosure}
+use Rattle.program.specs.Table.{ruleCount, bitCount, ruleOfBit, Shaped}
+use Rattle.argument.specs.Fresh.{maskClosure, freshBy}
+use Rattle.argument.specs.List.{listBy}
 
 -- the entry of mask m
 abbrev pub closureAt : List ℕ → ℕ → ℕ
@@ -22,7 +24,25 @@ pub record Stands (rules : List Rule) (m x : ℕ) : Type 0 where
 abbrev pub Filled : List Rule → ℕ → List ℕ → Type 0
 Filled rules n t = (m : ℕ) → m < n → Stands rules m (closureAt t m)
 
+-- a rule with this body may add to the closure x
+abbrev pub applies : ℕ → ℕ → Bool
+applies body x = not (clash x) && within body x
+
+-- what the rule table of each accepted program is like: it has at most 16 defeasible rules, one for each bit
+pub record Numbered (t : List ℕ) : Type 0 where
+  pub shaped : Shaped t
+  pub few : bitCount t ≤ 16
+  pub rule : (b : ℕ) → b < bitCount t → ruleOfBit t b < ruleCount t
+
 -- the table has an entry for each mask of so many rules
 pub record Room (bits : ℕ) (t : List ℕ) : Type 0 where
   pub few : bits ≤ 16
   pub long : 2 * 2 ^ bits ≤ length t
+
+-- the literals of the arguments with mask m, one of so many rules, read off the table
+abbrev pub freshIn : List ℕ → ℕ → ℕ → ℕ
+freshIn t bits m = freshBy (closureAt t) bits m
+
+-- the argument list, read off the table
+unfoldable pub listIn : List ℕ → ℕ → List ℕ
+listIn t bits = listBy (λ m. has (freshIn t bits m)) 0 (2 ^ bits)

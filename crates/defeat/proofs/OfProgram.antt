@@ -17,7 +17,8 @@ use Rattle.derivation.specs.Derivation.{Derives, Contradictory, HeadsBelow}
 use Rattle.derivation.specs.Closure.{contradictory, excludes}
 use Rattle.derivation.proofs.Rounds.{ClosedUnder}
 use Rattle.derivation.proofs.Chains.{derives-ind, derives-rule, derives-mono}
-use Rattle.derivation.proofs.Contradictions.{contradictory-sound, contradictory-complete, excludes-sound, excludes-complete}
+use Rattle.derivation.proofs.Contradictions.{contradictory-sound, contradictory-complete, excludes-sound}
+use Rattle.derivation.proofs.Contradictions.{excludes-complete}
 use Rattle.derivation.proofs.Choices.{Π-with-mono, Π-with-rules}
 use Rattle.argument.specs.Argument.{Subset, Argument, maskOf, literalOf}
 use Rattle.argument.proofs.Lists.{list-sound, list-complete}
@@ -127,7 +128,8 @@ module _ (p : Program) (heads : HeadsBelow 128 (p .rules)) (Preferred : ℕ → 
   unfolding testsOf
   frame-renders = record {
     argument = λ x. (list-complete (p .rules) heads x, list-sound (p .rules) heads x);
-    sub = λ z y az ay. by-test (within (maskOf z) (maskOf y)) (within-each (maskOf z) (maskOf y)) (each-within (maskOf z) (maskOf y));
+    sub = λ z y az ay.
+        by-test (within (maskOf z) (maskOf y)) (within-each (maskOf z) (maskOf y)) (each-within (maskOf z) (maskOf y));
     excludes = λ x z ax az.
         by-test (excludes (p .rules) (literalOf x) (literalOf z)) (excludes-sound (p .rules) (literalOf x) (literalOf z))
         (excludes-complete (p .rules) heads (literalOf x) (literalOf z) (omega arith) (omega arith));

@@ -9,3 +9,4 @@ pub mod Directory
 pub mod Whole
 pub mod Readings
 pub mod Accepted
+pub mod Beaten

@@ -2,11 +2,16 @@
 use mathlib.Core.Path.{_≡_, refl, sym, ap, subst, _∙_}
 use mathlib.Core.List.{List, [], _∷_, List·Memᴰ, List·Memᴰ·head, List·Memᴰ·tail, List·Memᴰ·cases-cons, List·Memᴰ·not-nil}
 use mathlib.Core.Logic.{_⊎_, inl, inr}
-use Prim.Native.Nat.{ℕ, zero, suc, _+_, _<_, _≤_}
+use mathlib.Core.Bool.{Bool}
+use Prim.Native.Nat.{ℕ, zero, suc, _+_, _-_, _<_, _≤_}
+use native.Mathlib.Numerals.{add-one}
 use native.Mathlib.Nat.{add-zero, add-suc}
 use native.Mathlib.Omega.{arith}
 use lib.ListN.{length, getD}
-use Rattle.program.specs.Program.{Rule, fact, ruleAt}
+use lib.Dec.{eqb}
+use borrow.Author.Tests.{eq-eqb, ne-eqb}
+use Rattle.literals.specs.Sets.{choose, insert}
+use Rattle.program.specs.Program.{Rule, fact, ruleAt, bitOf, beatenFrom}
 use Rattle.image.specs.Layout.{partOf, firstOf, secondOf}
 use Rattle.image.specs.Reading.{ruleIn, rulesIn, pairsIn}
 
@@ -43,3 +48,26 @@ pairs-found s j (suc n) a b m = go (pairs-found s (suc j) n a b) (List·Memᴰ·
     go : (List·Memᴰ (a, b) (pairsIn s (suc j) n) → (k : ℕ) × (suc j ≤ k) × (k < suc j + n) × (a ≡ firstOf s k) × (b ≡ secondOf s k)) → (_≡_ {A = ℕ × ℕ} (a, b) (firstOf s j, secondOf s j)) ⊎ List·Memᴰ (a, b) (pairsIn s (suc j) n) → (k : ℕ) × (j ≤ k) × (k < j + suc n) × (a ≡ firstOf s k) × (b ≡ secondOf s k)
     go f (inl e) = (j, omega arith, omega arith, ap (λ (q : ℕ × ℕ). q .0) e, ap (λ (q : ℕ × ℕ). q .1) e)
     go f (inr k) = let x = f k in let l = x .1 in let u = x .2 in (x .0, omega arith, omega arith, x .3, x .4)
+
+-- ---- the rules that a rule beats, by the pairs from pair j to pair n
+module _ (s : List ℕ) (l : List Rule) (a m j n : ℕ) (h : j < n) where
+  beaten-next : beatenFrom l a m (pairsIn s j (n - j)) ≡ beatenFrom l a (choose (eqb (firstOf s j) a) (insert m (bitOf l (secondOf s j))) m) (pairsIn s (j + 1) (n - (j + 1)))
+  unfolding pairsIn beatenFrom
+  beaten-next =
+      let z : n - j ≡ suc (n - (j + 1)) = omega arith in
+      ap (λ (k : ℕ). beatenFrom l a m (pairsIn s j k)) z
+      ∙ ap (λ (k : ℕ). beatenFrom l a (choose (eqb (firstOf s j) a) (insert m (bitOf l (secondOf s j))) m) (pairsIn s k (n - (j + 1)))) (sym (add-one j))
+
+  pub beaten-other : (firstOf s j ≡ a → ⊥) → beatenFrom l a m (pairsIn s j (n - j)) ≡ beatenFrom l a m (pairsIn s (j + 1) (n - (j + 1)))
+  beaten-other d =
+      beaten-next
+      ∙ ap (λ (b : Bool). beatenFrom l a (choose b (insert m (bitOf l (secondOf s j))) m) (pairsIn s (j + 1) (n - (j + 1)))) (ne-eqb (firstOf s j) a d)
+
+  pub beaten-one : firstOf s j ≡ a → beatenFrom l a m (pairsIn s j (n - j)) ≡ beatenFrom l a (insert m (bitOf l (secondOf s j))) (pairsIn s (j + 1) (n - (j + 1)))
+  beaten-one e =
+      beaten-next
+      ∙ ap (λ (b : Bool). beatenFrom l a (choose b (insert m (bitOf l (secondOf s j))) m) (pairsIn s (j + 1) (n - (j + 1)))) (eq-eqb (firstOf s j) a e)
+
+pub beaten-end : (s : List ℕ) (l : List Rule) (a m j n : ℕ) → n ≤ j → beatenFrom l a m (pairsIn s j (n - j)) ≡ m
+unfolding pairsIn beatenFrom
+beaten-end s l a m j n h = let z : n - j ≡ 0 = omega arith in ap (λ (k : ℕ). beatenFrom l a m (pairsIn s j k)) z

@@ -2,10 +2,12 @@
 use mathlib.Core.Bool.{Bool, true, false}
 use mathlib.Core.List.{List}
 use mathlib.Core.Path.{_≡_}
-use Prim.Native.Nat.{ℕ, _+_, _*_, _<_, _≤_}
+use Prim.Native.Nat.{ℕ, _+_, _*_, _^_, _<_, _≤_}
 use lib.ListN.{length}
 use lib.Dec.{leb}
 use Rattle.literals.specs.Sets.{choose}
+use Rattle.program.specs.Program.{Rule, Program, bitOf}
+use Rattle.program.specs.Table.{needAt, Holds}
 use Rattle.image.specs.declared.Verdict.{Verdict}
 use Rattle.image.specs.declared.Verdict.the-variants.{Accepted, Refused}
 use Rattle.image.specs.declared.cursor.Cursor.{Cursor}
@@ -16,7 +18,7 @@ use Rattle.image.specs.declared.cursor.Entry.the-variants as entry
 use Rattle.image.specs.declared.header.Counts.{Counts}
 use Rattle.image.specs.declared.header.Header.{Header}
 use Rattle.image.specs.declared.header.Header.the-variants as header
-use Rattle.image.specs.Layout.{numberAt, atomsOf, rulesOf, pairsOf, offsetOf, sizeOf}
+use Rattle.image.specs.Layout.{byteAt, numberAt, atomsOf, rulesOf, pairsOf, offsetOf, sizeOf}
 use Rattle.image.specs.Causes.{andThen, refuse, badLength, badCounts}
 
 abbrev pub cursorAt : ℕ → Cursor
@@ -48,3 +50,16 @@ pub record Parts (s : List ℕ) (n : ℕ) : Type 0 where
 pub record Located (s : List ℕ) (i from to : ℕ) : Type 0 where
   pub from-is : from ≡ offsetOf s i
   pub to-is : to ≡ offsetOf s i + sizeOf s i
+
+-- each of the first n pairs of the bytes names as its second a rule below a limit
+abbrev pub Named : ℕ → List ℕ → ℕ → Type 0
+Named limit bytes n = (j : ℕ) → j < n → byteAt bytes (2 * j + 1) < limit
+
+-- and the table has that rule's bit as its need
+abbrev pub BitsAt : List Rule → List ℕ → List ℕ → ℕ → Type 0
+BitsAt l t bytes n = (j : ℕ) → j < n → needAt t (byteAt bytes (2 * j + 1)) ≡ 2 ^ bitOf l (byteAt bytes (2 * j + 1))
+
+-- what reading leaves in the rule table: the program, or the table as it was
+abbrev pub Loaded : Verdict → Program → List ℕ → List ℕ → Type 0
+Loaded Accepted p s t = length s ≡ 419 → Holds p t
+Loaded (Refused n k) p s t = t ≡ s

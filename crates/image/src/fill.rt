@@ -1,18 +1,22 @@
 // From the bytes of an accepted image to the rule table.
 ghost use mathlib.Core.Path.{_≡_};
 ghost use mathlib.Core.Bool.{true};
-ghost use Prim.Native.Nat.{_≤_, _<_};
+ghost use mathlib.Core.List.{List};
+ghost use Prim.Native.Nat.{ℕ, _*_, _≤_, _<_};
 ghost use lib.ListN.{length, drop};
 ghost use lib.Dec.{eqb};
 ghost use Rattle.literals.specs.Sets.{insertAll};
 ghost use Rattle.literals.specs.Words.{setOf};
-ghost use Rattle.program.specs.Program.{nextBit, defeasibles};
-ghost use Rattle.program.specs.Filling.{Stored, RowsTo};
-ghost use Rattle.image.specs.Layout.{rulesOf, kindByte, bodyBytes};
+ghost use Rattle.program.specs.Program.{Rule, nextBit, defeasibles, beatenFrom};
+ghost use Rattle.program.specs.Table.{Holds};
+ghost use Rattle.program.specs.Filling.{Stored, RowsTo, BeatenTo};
+ghost use Rattle.image.specs.Layout.{atomsOf, rulesOf, pairsOf, partOf, kindByte, bodyBytes};
 ghost use Rattle.image.specs.Causes.{allBelow, verdict};
-ghost use Rattle.image.specs.Reading.{ruleIn, rulesIn};
+ghost use Rattle.image.specs.Reading.{ruleIn, rulesIn, pairsIn, programIn};
+ghost use Rattle.image.specs.Steps.{Named, BitsAt};
 use crate::Verdict;
 use crate::cursor;
+use crate::header::Counts;
 use crate::part;
 use literals::LiteralSet;
 use program::RuleTable;
@@ -68,4 +72,62 @@ fn store_rules(table: &mut RuleTable, image: &[u8], rules: usize) -> u64
         i += 1;
     }
     bit
+}
+
+// The mask of the rules that a rule beats by one of the pairs.
+fn beaten_mask(table: &RuleTable, pairs: &[u8], count: usize, rule: usize) -> u64
+    requires { ⌜ (count ≤ 240) × (length (now pairs) ≡ 2 * count) × (Named 96 (now pairs) count) ⌝ }
+    ensures { λ r. ⌜ ((s : List ℕ) (l : List Rule) → now (pairs .entry) ≡ partOf s (rulesOf s) → BitsAt l (now (table .entry)) (now (pairs .entry)) count → r ≡ beatenFrom l rule 0 (pairsIn s 0 count)) ⌝ }
+{
+    let mut mask: u64 = 0;
+    let mut j: usize = 0;
+    while j < count {
+        let first = pairs[2 * j] as usize;
+        if first != rule {
+            j += 1;
+            continue;
+        }
+        mask = mask | program::need(table, wide(pairs[2 * j + 1]));
+        j += 1;
+    }
+    mask
+}
+
+// Writes for each defeasible rule the mask of those it beats.
+fn store_beaten(table: &mut RuleTable, image: &[u8], rules: usize, count: usize)
+    requires { ⌜ (verdict (now image) ≡ Verdict.Accepted) × (rules ≡ rulesOf (now image)) × (count ≡ pairsOf (now image)) ⌝ }
+    ensures { λ _. ⌜ (length (now (table .exit)) ≡ length (now (table .entry))) × (length (now (table .entry)) ≡ 419 → RowsTo (rulesIn (now (image .entry)) 0 rules) rules (now (table .entry)) → BeatenTo (programIn (now (image .entry))) rules (now (table .exit))) ⌝ }
+{
+    let last = cursor::locate(image, rules);
+    let start = last.from;
+    let end = last.to;
+    let pairs = &image[start..end];
+    let mut bit: u64 = 0;
+    let mut i: usize = 0;
+    while i < rules {
+        let at = cursor::locate(image, i);
+        let from = at.from;
+        let to = at.to;
+        if !part::defeasible(&image[from..to]) {
+            i += 1;
+            continue;
+        }
+        let mask = beaten_mask(table, pairs, count, i);
+        program::store_beaten(table, bit, mask);
+        bit += 1;
+        i += 1;
+    }
+}
+
+// Fills the table from an accepted image.
+pub fn all(table: &mut RuleTable, image: &[u8], counts: Counts)
+    requires { ⌜ (verdict (now image) ≡ Verdict.Accepted) × (counts .atoms ≡ atomsOf (now image)) × (counts .rules ≡ rulesOf (now image)) × (counts .pairs ≡ pairsOf (now image)) ⌝ }
+    ensures { λ _. ⌜ (length (now (table .entry)) ≡ 419 → Holds (programIn (now (image .entry))) (now (table .exit))) ⌝ }
+{
+    let atoms = counts.atoms;
+    let rules = counts.rules;
+    let pairs = counts.pairs;
+    let bits = store_rules(table, image, rules);
+    store_beaten(table, image, rules, pairs);
+    program::store_counts(table, rules as u64, bits, atoms as u64);
 }

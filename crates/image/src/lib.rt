@@ -1,6 +1,8 @@
 // The program image: from bytes to the rule table, or the first cause that refuses them.
 ghost use mathlib.Core.Path.{_≡_};
 ghost use Rattle.image.specs.Causes.{verdict};
+ghost use Rattle.image.specs.Reading.{programIn};
+ghost use Rattle.image.specs.Steps.{Loaded};
 
 pub mod cursor;
 mod fill;
@@ -10,6 +12,7 @@ pub mod part;
 mod rules;
 
 use header::Header;
+use program::RuleTable;
 
 // Accepted, or the number and the place of the first cause that applies.
 pub enum Verdict {
@@ -39,4 +42,18 @@ pub fn check(image: &[u8]) -> Verdict
             pairs::verdict(image, rules, pairs)
         }
     }
+}
+
+// Reads an image into the rule table, or leaves the table as it was and says why.
+pub fn read(image: &[u8], table: &mut RuleTable) -> Verdict
+    ensures { λ r. ⌜ (r ≡ verdict (now (image .entry))) × (Loaded (verdict (now (image .entry))) (programIn (now (image .entry))) (now (table .entry)) (now (table .exit))) ⌝ }
+{
+    if let Verdict::Refused { number, place } = check(image) {
+        return Verdict::Refused { number, place };
+    }
+    let Header::Read { counts, next: _ } = header::read(image) else {
+        return Verdict::Accepted;
+    };
+    fill::all(table, image, counts);
+    Verdict::Accepted
 }

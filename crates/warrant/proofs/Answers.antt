@@ -8,14 +8,16 @@ use lib.ListN.{length}
 use lib.Dec.{T, not-T, ltb, ltb→lt, lt→ltb, nltb→le}
 use Rattle.lists.specs.Decides.{Decides}
 use Rattle.lists.proofs.Decides.{decides-not}
-use Rattle.program.specs.Program.{Program, Π}
+use Rattle.program.specs.Program.{Program}
 use Rattle.derivation.specs.Derivation.{complement, HeadsBelow}
 use Rattle.defeat.specs.Tests.{Tests}
 use Rattle.defeat.specs.OfProgram.{testsOf}
 use Rattle.tree.proofs.Entries.{entries-length}
 use Rattle.warrant.specs.Warrant.{WarrantedBy}
-use Rattle.warrant.specs.Answer.{Occurs, occurs, indexIn, forest, nodeCount, forestEntries, warranted, answerOf, answerBy, codeOf, nodesOf}
-use Rattle.warrant.proofs.Warrant.{occurs-renders, occurs-complement, warranted-occurs, warranted-apart, complement-excludes, warranted-renders}
+use Rattle.warrant.specs.Answer.{Occurs, occurs, indexIn, forest, nodeCount, forestEntries, warranted, answerOf}
+use Rattle.warrant.specs.Answer.{answerBy, codeOf, nodesOf}
+use Rattle.warrant.proofs.Warrant.{occurs-renders, occurs-complement, warranted-occurs, warranted-apart}
+use Rattle.warrant.proofs.Warrant.{complement-excludes, warranted-renders}
 
 -- ---- by the tests that decide between the answers
 
@@ -57,6 +59,14 @@ module _ (b n : ℕ) where
   unfinished-by true false true m = (λ e. absurd (omega (arith, e)), λ h. absurd (h .1))
   unfinished-by true false false true = (λ e. absurd (omega (arith, e)), λ h. absurd (h .1))
   unfinished-by true false false false = (λ e. absurd (omega (arith, e)), λ h. absurd (h .1))
+
+  -- none is a refusal
+  code-by : (o v w m : Bool) → code o v w m ≡ 0 → ⊥
+  code-by false v w m e = omega arith
+  code-by true true w m e = omega arith
+  code-by true false true m e = omega arith
+  code-by true false false true e = omega arith
+  code-by true false false false e = omega arith
 
   -- no more nodes than the budget
   nodes-by : (o v w m : Bool) → (T (not v) → n ≤ b) → nodesOf (answerOf o v w m b n) ≤ b
@@ -123,6 +133,10 @@ module _ (p : Program) (preferred : ℕ → ℕ → Bool) (h b : ℕ) where
         λ r. by .1 (o .passes (r .0), v .passes (r .1)),
       )
 
+  pub answer-not-refused : codeOf (answerBy p preferred h b) ≡ 0 → ⊥
+  unfolding answerBy
+  answer-not-refused = code-by b n (occurs p h) (ltb b n) w m
+
   pub answer-nodes-within : nodesOf (answerBy p preferred h b) ≤ b
   unfolding answerBy
   answer-nodes-within = nodes-by b n (occurs p h) (ltb b n) w m (nltb→le b n)
@@ -153,7 +167,8 @@ module _ (p : Program) (heads : HeadsBelow 128 (p .rules)) (Preferred : ℕ → 
   renders : (k : ℕ) → Decides (warranted (testsOf p preferred) k) (W k)
   renders = warranted-renders p heads Preferred preferred decides
 
-  pub answer-yes : (codeOf (answerBy p preferred h b) ≡ 1) ↔ ((nodeCount (testsOf p preferred) h ≤ b) × WarrantedBy p Preferred h)
+  pub answer-yes : (codeOf (answerBy p preferred h b) ≡ 1)
+      ↔ ((nodeCount (testsOf p preferred) h ≤ b) × WarrantedBy p Preferred h)
   unfolding answerBy
   answer-yes =
       let by = yes-by b N (occurs p h) (ltb b N) (w p preferred h b) (m p preferred h b) in

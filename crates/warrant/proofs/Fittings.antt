@@ -85,7 +85,9 @@ abbrev answered : Fitting → ℕ × ℕ
 answered f = let a = answer (f .program) (f .literal) (f .budget) in (codeOf a, nodesOf a)
 
 pub fittings-hold : map answered fittings ≡ map (λ f. f .expected) fittings
-unfolding has insert clashBelow defeasiblesFrom chosenFrom closure argumentList attacked proper neither blocking kind beatsSome testsOf unused joins replyKind repliesTo remaining replies forestOf undefeatedRoot occurs argumentsFor forest warranted answerBy
+unfolding has insert clashBelow defeasiblesFrom chosenFrom closure argumentList
+    attacked proper neither blocking kind beatsSome testsOf unused joins replyKind repliesTo remaining replies
+    forestOf undefeatedRoot occurs argumentsFor forest warranted answerBy
 fittings-hold = refl
 
 -- "F as an image"

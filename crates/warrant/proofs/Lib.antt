@@ -1,5 +1,8 @@
--- The theorems on answers and calls.
+-- The theorems on warrant, answers and calls.
 pub mod Warrant
 pub mod Answers
+pub mod Places
 pub mod Refusals
+pub mod Calls
+pub mod Claims
 pub mod Fittings

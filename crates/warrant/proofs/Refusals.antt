@@ -13,7 +13,8 @@ use Rattle.program.specs.Program.{Π}
 use Rattle.image.specs.declared.Verdict.{Verdict}
 use Rattle.image.specs.declared.Verdict.the-variants.{Accepted, Refused}
 use Rattle.image.specs.Layout.{atomsOf, rulesOf, pairsOf, partOf, kindByte}
-use Rattle.image.specs.Causes.{refuse, andThen, badLength, badCounts, badDirectory, badSize, badKind, badLiteral, badBody, badEmpty}
+use Rattle.image.specs.Causes.{refuse, andThen, badLength, badCounts, badDirectory, badSize, badKind, badLiteral}
+use Rattle.image.specs.Causes.{badBody, badEmpty}
 use Rattle.image.specs.Causes.{badSeventeenth, badRepeat, badPairs, badPair, badOrder, countKind}
 use Rattle.image.specs.Causes.{partVerdict, ruleVerdict, rulesVerdict, pairVerdict, pairsVerdict, verdict}
 use Rattle.image.specs.Reading.{programIn}
@@ -130,6 +131,11 @@ unfolding checkImage
 check-accepted s e =
     let k = then-accepted _ _ e in
     (k .0, refuse-accepted (contradictory (Π (programIn s .rules))) 14 0 (k .1))
+
+pub check-passes : (s : List ℕ) → verdict s ≡ Accepted → contradictory (Π (programIn s .rules)) ≡ false
+    → checkImage s ≡ Accepted
+unfolding checkImage
+check-passes s e c = rw (e, c)
 
 pub list-accepted : (s : List ℕ) (room : ℕ) → listVerdict s room ≡ Accepted
     → (checkImage s ≡ Accepted) × (length (listIn s) ≤ room)

@@ -12,7 +12,7 @@ use Rattle.lists.proofs.Lists.{filter-intro, filter-found}
 use Rattle.lists.proofs.Decides.{decides-iff, decides-any}
 use Rattle.literals.specs.Sets.{has}
 use Rattle.program.specs.Program.{Rule, Program, fact, Π-mask, Π}
-use Rattle.derivation.specs.Derivation.{Derives, Contradictory, complement, HeadsBelow}
+use Rattle.derivation.specs.Derivation.{Derives, complement, HeadsBelow}
 use Rattle.derivation.proofs.Chains.{derives-ind, derives-rule}
 use Rattle.derivation.proofs.Choices.{Π-with-rules}
 use Rattle.argument.specs.Argument.{maskOf, literalOf}

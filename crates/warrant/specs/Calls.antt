@@ -29,7 +29,7 @@ checkImage s = andThen (verdict s) (refuse (contradictory (Π (programIn s .rule
 
 -- ---- list arguments
 
--- "After every answer the argument table begins with the list."
+-- the argument list of the program that the image holds
 abbrev pub listIn : List ℕ → List ℕ
 listIn s = argumentList (programIn s .rules)
 
@@ -49,7 +49,7 @@ listed s room = listedBy (listVerdict s room) (length (listIn s))
 abbrev pub front : {A : Type 0} → List A → List A → List A
 front l table = l ++ drop (length l) table
 
--- "Left as it was: all tables", where a cause applies
+-- where a cause applies, "all tables" are "Left as it was"
 abbrev pub unlessRefused : {A : Type 0} → Verdict → A → A → A
 unlessRefused verdicts.Accepted after before = after
 unlessRefused (verdicts.Refused number place) after before = before
@@ -103,8 +103,8 @@ zeroed = record { argument = 0; parent = 0; kind = 0; mark = 0 }
 -- what a field of the entries, or the whole entry, leaves in a table of its own: four tables of numbers, or one of nodes
 unfoldable pub queryTable : {A : Type 0} → (Entry → A) → List ℕ → (literal budget argumentRoom : ℕ) → List A → List A
 queryTable field s h budget argumentRoom table =
-    nodesAfter (queried s h budget argumentRoom (length table)) (map field (forestEntries (tests (programIn s)) h)) (field zeroed)
-    table
+    let forest = map field (forestEntries (tests (programIn s)) h) in
+    nodesAfter (queried s h budget argumentRoom (length table)) forest (field zeroed) table
 
 abbrev pub queryNodes : List ℕ → (literal budget argumentRoom : ℕ) → List Node → List Node
 queryNodes = queryTable nodeOf

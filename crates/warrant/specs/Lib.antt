@@ -2,4 +2,4 @@
 pub mod Warrant
 pub mod Answer
 pub mod Calls
-pub mod Demand
+pub mod Claims

@@ -1,4 +1,12 @@
 // Warrant: what the calls answer, and what they leave in the lent tables. specs/ has the definitions, proofs/ the theorems.
+ghost use mathlib.Core.Path.{_≡_};
+ghost use lib.ListN.{length};
+ghost use Rattle.program.specs.Table.{Holds};
+ghost use Rattle.image.specs.Reading.{programIn};
+ghost use Rattle.warrant.specs.Calls.{checkImage};
+use image::Verdict;
+use literals::LiteralSet;
+use program::RuleTable;
 
 // A literal's answer with its number of nodes, or the number and place of the first cause that applies.
 pub enum Answer {
@@ -22,4 +30,29 @@ pub struct Node {
     pub parent: u32,
     pub kind: u8,
     pub mark: u8,
+}
+
+// The first of causes 1 to 14 that applies to an image.
+pub fn check(image: &[u8]) -> Verdict
+    ensures { λ r. ⌜ r ≡ checkImage (now (image .entry)) ⌝ }
+{
+    let mut table = [0u64; 419];
+    load(image, &mut table)
+}
+
+// Reads an image into the rule table: the first of causes 1 to 14 that applies.
+fn load(image: &[u8], table: &mut RuleTable) -> Verdict
+    requires { ⌜ length (now table) ≡ 419 ⌝ }
+    ensures { λ r. ⌜ (r ≡ checkImage (now (image .entry))) × (checkImage (now (image .entry)) ≡ Verdict.Accepted → Holds (programIn (now (image .entry))) (now (table .exit))) ⌝ }
+{
+    if let Verdict::Refused { number, place } = image::read(image, table) {
+        return Verdict::Refused { number, place };
+    }
+    if derivation::close(table, 0, LiteralSet::empty()).contradictory() {
+        return Verdict::Refused {
+            number: 14,
+            place: 0,
+        };
+    }
+    Verdict::Accepted
 }

@@ -1,17 +1,36 @@
--- Demand 3 as one claim, of warrant as defined and of the calls: literals that exclude each other are never both
--- warranted, nor both answered YES. Nothing says that the two literals differ.
+-- What is claimed of the answers and of the calls; proofs/Claims.antt proves it.
 use mathlib.Core.Path.{_≡_}
 use mathlib.Core.List.{List}
 use mathlib.Core.Logic.{_↔_}
-use Prim.Native.Nat.{ℕ, _≤_}
+use Prim.Native.Nat.{ℕ, _≤_, _<_}
+use lib.ListN.{length}
 use Rattle.program.specs.Program.{Program}
+use Rattle.derivation.specs.Derivation.{complement}
 use Rattle.image.specs.declared.Verdict.{Verdict}
 use Rattle.image.specs.declared.Verdict.the-variants.{Accepted}
 use Rattle.image.specs.Reading.{programIn}
 use Rattle.defeat.specs.OfProgram.{Exclude}
 use Rattle.warrant.specs.Warrant.{WarrantedBy, Warranted}
-use Rattle.warrant.specs.Answer.{tests, nodeCount}
+use Rattle.warrant.specs.Answer.{Occurs, nodeCount, forestEntries, tests, answer, codeOf, nodesOf}
 use Rattle.warrant.specs.Calls.{queryVerdict, Call, query, host, literalAsked, SaysYes}
+
+-- ---- the answers
+
+-- when each is given, by its number, and its nodes; N is `nodeCount (tests p) h`
+pub record Answers (p : Program) (h budget : ℕ) : Type 0 where
+  pub unknown : (codeOf (answer p h budget) ≡ 4) ↔ (¬ Occurs p h)
+  pub unfinished : (codeOf (answer p h budget) ≡ 5) ↔ (Occurs p h × (budget < nodeCount (tests p) h))
+  pub says-yes : (codeOf (answer p h budget) ≡ 1) ↔ ((nodeCount (tests p) h ≤ budget) × Warranted p h)
+  pub says-no : (codeOf (answer p h budget) ≡ 2) ↔ ((nodeCount (tests p) h ≤ budget) × Warranted p (complement h))
+  pub undecided : (codeOf (answer p h budget) ≡ 3)
+      ↔ (Occurs p h × (nodeCount (tests p) h ≤ budget) × (¬ Warranted p h) × (¬ Warranted p (complement h)))
+  -- "with N nodes", and "5 UNFINISHED, nodes = budget"
+  pub nodes-finished : Occurs p h → nodeCount (tests p) h ≤ budget → nodesOf (answer p h budget) ≡ nodeCount (tests p) h
+  pub nodes-unfinished : Occurs p h → budget < nodeCount (tests p) h → nodesOf (answer p h budget) ≡ budget
+  -- "N is its number of nodes": of the entries
+  pub entries-are-N : length (forestEntries (tests p) h) ≡ nodeCount (tests p) h
+
+-- ---- demand 3
 
 abbrev pub budgetOf : Call → ℕ
 budgetOf (query h budget argumentRoom nodeRoom) = budget
@@ -28,6 +47,8 @@ pub record Grants (s : List ℕ) (c : Call) : Type 0 where
   pub within-budget : nodeCount (tests (programIn s)) (literalAsked c) ≤ budgetOf c
   pub warranted : Warranted (programIn s) (literalAsked c)
 
+-- Literals that exclude each other are never both warranted, nor both answered YES: one claim, of warrant as defined and
+-- of the calls. Nothing says that the two literals differ.
 pub record Demand-3 : Type 1 where
   -- of warrant, for every program and any preference between masks
   pub of-warrant : (p : Program) (Pref : ℕ → ℕ → Type 0) (h k : ℕ) → Exclude (p .rules) h k

@@ -1,0 +1,48 @@
+-- The rule table of a program within the limits: its bits and their rules. Assumes nothing.
+use mathlib.Core.Path.{_≡_, refl, sym, ap, _∙_, subst}
+use mathlib.Core.Bool.{true}
+use mathlib.Core.List.{List, List·Memᴰ}
+use Prim.Native.Nat.{ℕ, _+_, _*_, _<_, _≤_}
+use native.Mathlib.Omega.{arith}
+use lib.ListN.{length}
+use Rattle.program.specs.Program.{Rule, Program, defeasibles, bitOf, ruleAt}
+use Rattle.program.specs.Limits.{DefeasibleAt, Limits}
+use Rattle.program.specs.Table.{ruleOfBit, bitCount, ruleCount, headAt, Holds, Shaped}
+use Rattle.program.proofs.Numbers.{defeasible-test, bit-of-found}
+use Rattle.derivation.proofs.Choices.{Π-with-rules, Π-with-at}
+use Rattle.argument.specs.Closures.{Numbered}
+
+-- the rule with bit b
+pub record RuleOf (rules : List Rule) (b i : ℕ) : Type 0 where
+  pub is : DefeasibleAt rules i
+  pub bit-is : bitOf rules i ≡ b
+
+module _ (p : Program) (t : List ℕ) (holds : Holds p t) where
+  pub table-rule : (b : ℕ) → b < bitCount t → RuleOf (p .rules) b (ruleOfBit t b)
+  table-rule b l = go (bit-of-found (p .rules) b (subst (λ (n : ℕ). b < n) (holds .bits-are) l))
+    where
+      go : (i : ℕ) × DefeasibleAt (p .rules) i × (bitOf (p .rules) i ≡ b) → RuleOf (p .rules) b (ruleOfBit t b)
+      go (i, d, e) =
+          subst (RuleOf (p .rules) b) (sym (holds .rule-of i (d .there) (defeasible-test d)) ∙ ap (ruleOfBit t) e)
+          (record { is = d; bit-is = e })
+
+  module _ (limits : Limits p) where
+    rule-in : (i : ℕ) → i < length (p .rules) → List·Memᴰ (ruleAt (p .rules) i) (p .rules)
+    rule-in i l = Π-with-rules (p .rules) (λ _. true) (ruleAt (p .rules) i) (Π-with-at (p .rules) (λ _. true) i l refl)
+
+    pub limits-shaped : Shaped t
+    limits-shaped =
+        record {
+          few = omega (arith, holds .rules-are, limits .rules-limit);
+          literals = λ i l.
+              let inside : i < length (p .rules) = omega (arith, holds .rules-are) in
+              omega (arith, holds .row i inside .head-is, limits .heads-below (ruleAt (p .rules) i) (rule-in i inside), limits .atoms-limit);
+        }
+
+    pub limits-numbered : Numbered t
+    limits-numbered =
+        record {
+          shaped = limits-shaped;
+          few = omega (arith, holds .bits-are, limits .defeasibles-limit);
+          rule = λ b l. omega (arith, table-rule b l .is .there, holds .rules-are);
+        }

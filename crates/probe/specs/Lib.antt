@@ -1,0 +1,2 @@
+-- What the exports return.
+pub mod Probe
