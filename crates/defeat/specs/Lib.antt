@@ -4,3 +4,5 @@ pub mod Defeat
 pub mod Tests
 pub mod Preference
 pub mod OfProgram
+pub mod Exclusions
+pub mod Steps
