@@ -5,3 +5,6 @@ pub mod Defeat
 pub mod Kind
 pub mod Preferences
 pub mod OfProgram
+pub mod Rows
+pub mod Weighing
+pub mod Attacks

@@ -1,3 +1,6 @@
 // Attack and defeat. specs/ has the definitions, proofs/ the theorems that join the published and the computed ones.
 
+pub mod defeaters;
+pub mod exclusions;
+pub mod numbers;
 pub mod preference;

@@ -1,0 +1,242 @@
+-- Which sub-arguments a listed argument attacks, as the closure table and the exclusion table tell it, and the kind that
+-- follows. Assumes nothing.
+use mathlib.Core.Path.{_≡_, refl, sym, ap, ap₂, _∙_, subst}
+use mathlib.Core.Bool.{Bool, true, false, _&&_, false≢true}
+use mathlib.Core.List.{List, [], _∷_, List·Memᴰ, List·Memᴰ·head, List·Memᴰ·tail, List·Memᴰ·not-nil, List·Memᴰ·cases-cons}
+use mathlib.Core.Logic.{_⊎_, inl, inr, ⊎-elim}
+use Prim.Native.Nat.{ℕ, zero, suc, _+_, _*_, _^_, _<_, _≤_}
+use native.Mathlib.Numerals.{add-one}
+use native.Mathlib.Decide.{decLt}
+use native.Mathlib.Omega.{arith}
+use lib.Dec.{T}
+use lib.ListN.{length, getD, take, drop}
+use lib.Seq.{drop-cons, length-take-le, getD-take}
+use Rattle.lists.specs.Lists.{any}
+use Rattle.lists.proofs.Lists.{T-true, any-intro, any-found}
+use Rattle.literals.specs.Sets.{has, within, meets}
+use Rattle.literals.proofs.Tests.{true-T, same-test, not-true-false, and-intro, and-left, and-right}
+use Rattle.literals.proofs.Members.{has-cases, has-empty}
+use Rattle.literals.proofs.Within.{within-each, each-within, within-le, meets-both, both-meets}
+use Rattle.program.specs.Program.{Rule, Program, defeasibles, Π-mask}
+use Rattle.program.specs.Limits.{Limits, Mask}
+use Rattle.derivation.specs.Derivation.{HeadsBelow}
+use Rattle.derivation.specs.Closure.{contradictory, excludes}
+use Rattle.derivation.proofs.Contradictions.{excludes-sym, excludes-derived}
+use Rattle.derivation.proofs.Choices.{Π-with-mono}
+use Rattle.argument.specs.Argument.{Subset, Argument, SubArgument, maskOf, literalOf}
+use Rattle.argument.specs.List.{argumentList, Ascends}
+use Rattle.argument.specs.Fresh.{maskClosure}
+use Rattle.argument.specs.Closures.{closureAt}
+use Rattle.argument.proofs.Minimal.{argument-derives, argument-coherent, argument-mask-below}
+use Rattle.argument.proofs.SubArguments.{argument-derived, sub-argument-literal, literal-sub-argument}
+use Rattle.argument.proofs.Lists.{list-sound, list-complete, list-ascends}
+use Rattle.defeat.specs.Tests.{kind}
+use Rattle.defeat.specs.OfProgram.{testsOf}
+use Rattle.defeat.specs.Exclusions.{excludedBy, Ready}
+use Rattle.defeat.specs.Steps.{attackedBy, kindAmong}
+use Rattle.defeat.proofs.Weighing.{any-same, any-none, among-none, among-same, kind-among}
+
+-- ---- arguments that do not exclude each other
+
+-- an argument and one of those within its mask
+pub sub-apart : (rules : List Rule) (n m a b : ℕ) → Subset n m → Argument rules n a → Argument rules m b
+    → excludes rules a b ≡ false
+sub-apart rules n m a b w aa ab = not-true-false (excludes rules a b) (λ e.
+    false≢true
+    (sym (argument-coherent rules m b ab)
+    ∙ excludes-derived rules (Π-mask m rules) (Π-with-mono rules (λ _. false) (has m) (λ k q. absurd (false≢true q))) a b
+    (argument-derived rules n m a w aa) (argument-derives rules m b ab) e))
+
+empty-subset : (n m : ℕ) → n ≡ 0 → Subset n m
+empty-subset n m e b h = absurd (false≢true (sym (has-empty b) ∙ ap (λ (k : ℕ). has k b) (sym e) ∙ h))
+
+-- ---- within the limits
+
+module _ (p : Program) (limits : Limits p) where
+  heads-small : HeadsBelow 128 (p .rules)
+  heads-small r i = omega (arith, limits .heads-below r i, limits .atoms-limit)
+
+  listed-argument : (x : ℕ) → List·Memᴰ x (argumentList (p .rules)) → Argument (p .rules) (maskOf x) (literalOf x)
+  listed-argument = list-sound (p .rules) heads-small
+
+  pub listed-mask : (x : ℕ) → List·Memᴰ x (argumentList (p .rules)) → Mask p (maskOf x)
+  listed-mask x i = argument-mask-below (p .rules) (maskOf x) (literalOf x) (listed-argument x i)
+
+  -- an argument with an empty mask attacks nothing
+  pub strict-apart : (x z : ℕ) → x < 128 → List·Memᴰ x (argumentList (p .rules)) → List·Memᴰ z (argumentList (p .rules))
+      → excludes (p .rules) (literalOf x) (literalOf z) ≡ false
+  strict-apart x z l i j =
+      sub-apart (p .rules) (maskOf x) (maskOf z) (literalOf x) (literalOf z)
+      (empty-subset (maskOf x) (maskOf z) (omega arith)) (listed-argument x i) (listed-argument z j)
+
+  -- The literals of y's sub-arguments are those that its mask derives: a set meets these exactly if it has the literal of
+  -- a listed sub-argument.
+  pub sub-meets : (s y : ℕ) → List·Memᴰ y (argumentList (p .rules))
+      → meets s (maskClosure (p .rules) (maskOf y)) ≡ any (attackedBy s (maskOf y)) (argumentList (p .rules))
+  sub-meets s y i =
+      same-test (meets s derived) (any (attackedBy s (maskOf y)) list) (λ h. to (meets-both s derived h))
+      (λ h. from (any-found (attackedBy s (maskOf y)) list (true-T (any (attackedBy s (maskOf y)) list) h)))
+    where
+      list : List ℕ
+      list = argumentList (p .rules)
+
+      derived : ℕ
+      derived = maskClosure (p .rules) (maskOf y)
+
+      coherent : contradictory (Π-mask (maskOf y) (p .rules)) ≡ false
+      coherent = argument-coherent (p .rules) (maskOf y) (literalOf y) (listed-argument y i)
+
+      to : (k : ℕ) × (has s k ≡ true) × (has derived k ≡ true) → any (attackedBy s (maskOf y)) list ≡ true
+      to (k, a, b) = go (literal-sub-argument (p .rules) y heads-small coherent k b)
+        where
+          go : (z : ℕ) × SubArgument (p .rules) z y × (literalOf z ≡ k) → any (attackedBy s (maskOf y)) list ≡ true
+          go (z, w, e) =
+              T-true (any (attackedBy s (maskOf y)) list)
+              (any-intro (attackedBy s (maskOf y)) list (list-complete (p .rules) heads-small z (w .argument))
+              (true-T (attackedBy s (maskOf y) z)
+              (and-intro (within (maskOf z) (maskOf y)) (has s (literalOf z)) (each-within (maskOf z) (maskOf y) (w .part))
+              (ap (has s) e ∙ a))))
+
+      from : (z : ℕ) × List·Memᴰ z list × T (attackedBy s (maskOf y) z) → meets s derived ≡ true
+      from (z, j, t) =
+          let h = T-true (attackedBy s (maskOf y) z) t in
+          let part = within-each (maskOf z) (maskOf y) (and-left (within (maskOf z) (maskOf y)) (has s (literalOf z)) h) in
+          both-meets s derived (literalOf z) (and-right (within (maskOf z) (maskOf y)) (has s (literalOf z)) h)
+          (sub-argument-literal (p .rules) y z (record { argument = listed-argument z j; part = part }))
+
+-- ---- by the two tables
+
+module _ {p : Program} {u : ℕ} {table closures exclusions arguments : List ℕ} {count : ℕ}
+    (ready : Ready p u table closures exclusions arguments count) (x y : ℕ)
+    (lx : List·Memᴰ x (argumentList (p .rules))) (ly : List·Memᴰ y (argumentList (p .rules))) where
+  abbrev list : List ℕ
+  list = argumentList (p .rules)
+
+  -- z is a sub-argument of y, and x attacks it
+  abbrev attacks : ℕ → Bool
+  attacks z = within (maskOf z) (maskOf y) && excludes (p .rules) (literalOf x) (literalOf z)
+
+  -- the closure of y's mask is in the table
+  derived-is : closureAt closures (maskOf y) ≡ maskClosure (p .rules) (maskOf y)
+  derived-is =
+      let stands = ready .filled (maskOf y) (listed-mask p (ready .limits) y ly) in
+      let ay = listed-argument p (ready .limits) y ly in
+      stands .exact (stands .clashing ∙ argument-coherent (p .rules) (maskOf y) (literalOf y) ay)
+
+  -- the row of x's literal says which listed arguments x excludes
+  pub row-excludes : 128 ≤ x → (z : ℕ) → List·Memᴰ z (argumentList (p .rules))
+      → has (excludedBy exclusions (literalOf x)) (literalOf z) ≡ excludes (p .rules) (literalOf x) (literalOf z)
+  row-excludes h z lz = ⊎-elim inside outside (has-cases u (literalOf z))
+    where
+      this : has u (literalOf x) ≡ true
+      this = ready .conclusions x lx h
+
+      row : ℕ
+      row = excludedBy exclusions (literalOf x)
+
+      inside : has u (literalOf z) ≡ true → has row (literalOf z) ≡ excludes (p .rules) (literalOf x) (literalOf z)
+      inside = ready .excluded .exact (literalOf x) (literalOf z) this
+
+      outside : has u (literalOf z) ≡ false → has row (literalOf z) ≡ excludes (p .rules) (literalOf x) (literalOf z)
+      outside e =
+          not-true-false (has row (literalOf z)) (λ q.
+          false≢true (sym e ∙ ready .excluded .only (literalOf x) (literalOf z) this q))
+          ∙ sym (excludes-sym (p .rules) (literalOf x) (literalOf z)
+          ∙ strict-apart p (ready .limits) z x (strict (decLt z 128)) lz lx)
+        where
+          strict : Dec (z < 128) → z < 128
+          strict (yes l) = l
+          strict (no n) = absurd (false≢true (sym e ∙ ready .conclusions z lz (omega arith)))
+
+  pub attacked-same : 128 ≤ x → (z : ℕ) → List·Memᴰ z (argumentList (p .rules))
+      → attackedBy (excludedBy exclusions (literalOf x)) (maskOf y) z ≡ attacks z
+  attacked-same h z lz = ap (λ (t : Bool). within (maskOf z) (maskOf y) && t) (row-excludes h z lz)
+
+  -- the early test: the row meets what y's mask derives exactly if x attacks a sub-argument of y
+  pub attacked-meets : 128 ≤ x
+      → meets (excludedBy exclusions (literalOf x)) (closureAt closures (maskOf y)) ≡ any attacks list
+  attacked-meets h =
+      ap (meets (excludedBy exclusions (literalOf x))) derived-is
+      ∙ sub-meets p (ready .limits) (excludedBy exclusions (literalOf x)) y ly
+      ∙ any-same (attackedBy (excludedBy exclusions (literalOf x)) (maskOf y)) attacks list (attacked-same h)
+
+  -- ---- the kind
+
+  module _ (preferred : ℕ → ℕ → Bool) where
+    abbrev over : ℕ → Bool
+    over z = preferred (maskOf x) (maskOf z)
+
+    abbrev under : ℕ → Bool
+    under z = preferred (maskOf z) (maskOf x)
+
+    among : kind (testsOf p preferred) x y ≡ kindAmong attacks over under list
+    unfolding testsOf
+    among = kind-among (testsOf p preferred) x y
+
+    pub kind-strict : x < 128 → kind (testsOf p preferred) x y ≡ 0
+    kind-strict l =
+        among ∙ among-none attacks over under list (any-none attacks list (λ z lz.
+        not-true-false (attacks z) (λ q.
+        false≢true
+        (sym (strict-apart p (ready .limits) x z l lx lz)
+        ∙ and-right (within (maskOf z) (maskOf y)) (excludes (p .rules) (literalOf x) (literalOf z)) q))))
+
+    pub kind-apart : 128 ≤ x → meets (excludedBy exclusions (literalOf x)) (closureAt closures (maskOf y)) ≡ false
+        → kind (testsOf p preferred) x y ≡ 0
+    kind-apart h e = among ∙ among-none attacks over under list (sym (attacked-meets h) ∙ e)
+
+    pub kind-weighed : 128 ≤ x
+        → kindAmong (attackedBy (excludedBy exclusions (literalOf x)) (maskOf y)) over under list
+        ≡ kind (testsOf p preferred) x y
+    kind-weighed h =
+        among-same (attackedBy (excludedBy exclusions (literalOf x)) (maskOf y)) attacks over under list (attacked-same h)
+        ∙ sym among
+
+-- ---- the list from an index on
+
+-- one of a list that ascends is below those that follow
+ascends-low : (l : List ℕ) (low high z : ℕ) → Ascends low high l → List·Memᴰ z l → low ≤ z
+ascends-low [] low high z a i = absurd (List·Memᴰ·not-nil i)
+ascends-low (x ∷ l) low high z a i =
+    let b = a .0 in
+    ⊎-elim (λ e. omega arith) (λ j. omega (arith, ascends-low l (suc x) high z (a .2) j)) (List·Memᴰ·cases-cons i)
+
+ascends-rest : (l : List ℕ) (low high i z : ℕ) → Ascends low high l → i < length l → List·Memᴰ z (drop i l) → getD l i 0 ≤ z
+ascends-rest [] low high i z a h j = absurd (omega arith)
+ascends-rest (x ∷ l) low high zero z a h j =
+    ⊎-elim (λ e. omega arith) (λ k. omega (arith, ascends-low l (suc x) high z (a .2) k)) (List·Memᴰ·cases-cons j)
+ascends-rest (x ∷ l) low high (suc i) z a h j = ascends-rest l (suc x) high i z (a .2) (omega arith) j
+
+listed-at : (l : List ℕ) (i : ℕ) → i < length l → List·Memᴰ (getD l i 0) l
+listed-at [] i h = absurd (omega arith)
+listed-at (x ∷ l) zero h = List·Memᴰ·head refl
+listed-at (x ∷ l) (suc i) h = List·Memᴰ·tail (listed-at l i (omega arith))
+
+-- the entry at i of a table that begins with the list
+module _ (rules : List Rule) (arguments : List ℕ) (count i : ℕ) (listed : take count arguments ≡ argumentList rules)
+    (enough : count ≤ length arguments) (inside : i < count) where
+  as-long : length (argumentList rules) ≡ count
+  as-long = ap length (sym listed) ∙ length-take-le count arguments enough
+
+  entry-is : getD (argumentList rules) i 0 ≡ getD arguments i 0
+  entry-is = ap (λ (l : List ℕ). getD l i 0) (sym listed) ∙ getD-take count arguments i 0 inside
+
+  pub entry-listed : List·Memᴰ (getD arguments i 0) (argumentList rules)
+  entry-listed =
+      subst (λ (z : ℕ). List·Memᴰ z (argumentList rules)) entry-is
+      (listed-at (argumentList rules) i (omega (arith, as-long)))
+
+  pub entry-first : drop i (argumentList rules) ≡ getD arguments i 0 ∷ drop (i + 1) (argumentList rules)
+  entry-first =
+      drop-cons (argumentList rules) i 0 (omega (arith, as-long))
+      ∙ ap₂ (λ (z : ℕ) (k : ℕ). z ∷ drop k (argumentList rules)) entry-is (sym (add-one i))
+
+  -- past the masks up to m none is within m
+  pub entry-past : (s m : ℕ) → m < maskOf (getD arguments i 0) → (z : ℕ) → List·Memᴰ z (drop i (argumentList rules))
+      → attackedBy s m z ≡ false
+  entry-past s m h z j = not-true-false (attackedBy s m z) (λ q.
+      let there : i < length (argumentList rules) = omega (arith, as-long) in
+      let low = ascends-rest (argumentList rules) 0 (2 ^ defeasibles rules * 128) i z (list-ascends rules) there j in
+      let part = within-le (maskOf z) m (and-left (within (maskOf z) m) (has s (literalOf z)) q) in
+      let e = entry-is in
+      omega arith)

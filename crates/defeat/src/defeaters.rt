@@ -1,0 +1,99 @@
+// The kind of one argument as a defeater of another, by the closure table and the exclusion table.
+ghost use mathlib.Core.Path.{_≡_};
+ghost use mathlib.Core.List.{List·Memᴰ};
+ghost use Prim.Native.Nat.{ℕ, _+_, _*_, _^_, _<_, _≤_};
+ghost use lib.ListN.{length, take};
+ghost use Rattle.literals.specs.Words.{setOf};
+ghost use Rattle.program.specs.Program.{Program};
+ghost use Rattle.program.specs.Limits.{Limits, Mask};
+ghost use Rattle.program.specs.Table.{Holds};
+ghost use Rattle.argument.specs.Argument.{maskOf};
+ghost use Rattle.argument.specs.List.{argumentList};
+ghost use Rattle.defeat.specs.Tests.{kind as «kindBy»};
+ghost use Rattle.defeat.specs.OfProgram.{testsOf};
+ghost use Rattle.defeat.specs.Preference.{preferredTest};
+ghost use Rattle.defeat.specs.Exclusions.{Numbers, Ready};
+ghost use Rattle.defeat.specs.Steps.{attackedBy, kindAmong};
+use crate::exclusions;
+use crate::numbers;
+use crate::preference;
+use argument::closures;
+use literals::LiteralSet;
+use literals::masks;
+use program::RuleTable;
+
+// The kind of x as a defeater of y: 1 proper, 2 blocking, 0 none. An argument with an empty mask attacks nothing, and
+// where no literal that y's mask derives is excluded, no sub-argument is attacked.
+pub fn kind(
+    table: &RuleTable,
+    closures: &[u64],
+    exclusions: &[u64; 256],
+    arguments: &[u32],
+    count: usize,
+    x: u32,
+    y: u32,
+) -> u8
+    requires { ⌜ Numbers (now arguments) count ⌝ }
+    requires { ⌜ (x < 2 ^ 23) × (y < 2 ^ 23) × (2 * maskOf y + 1 < length (now closures)) ⌝ }
+    ensures { λ r. ⌜ ((p : Program) (u : ℕ)
+        → Ready p u (now (table .entry)) (now (closures .entry)) (now (exclusions .entry)) (now (arguments .entry)) count
+        → List·Memᴰ x (argumentList (p .rules)) → List·Memᴰ y (argumentList (p .rules))
+        → r ≡ kindBy (testsOf p (preferredTest p)) x y) ⌝ }
+{
+    if x < 128 {
+        return 0;
+    }
+    let mask = numbers::mask_of(y);
+    let excluded = exclusions::entry(exclusions, numbers::literal_of(x));
+    if !excluded.meets(closures::entry(closures, mask)) {
+        return 0;
+    }
+    weigh(table, arguments, count, excluded, numbers::mask_of(x), mask)
+}
+
+// The kind of an argument with the mask x as a defeater of one with the mask y, where its literal excludes those of a set.
+// The list ascends, so that after the masks up to y no sub-argument follows.
+fn weigh(
+    table: &RuleTable,
+    arguments: &[u32],
+    count: usize,
+    excluded: LiteralSet,
+    x: u64,
+    y: u64,
+) -> u8
+    requires { ⌜ Numbers (now arguments) count ⌝ }
+    requires { ⌜ x < 2 ^ 16 ⌝ }
+    ensures { λ r. ⌜ ((p : Program) → Limits p → Holds p (now (table .entry)) → Mask p x
+        → take count (now (arguments .entry)) ≡ argumentList (p .rules)
+        → r ≡ kindAmong (attackedBy (setOf excluded) y) (λ z. preferredTest p x (maskOf z))
+        (λ z. preferredTest p (maskOf z) x) (argumentList (p .rules))) ⌝ }
+{
+    let mut found: u8 = 0;
+    let mut i: usize = 0;
+    while i < count {
+        let z = arguments[i];
+        let mask = numbers::mask_of(z);
+        if y < mask {
+            return found;
+        }
+        i += 1;
+        if !attacked(excluded, y, z) {
+            continue;
+        }
+        if preference::preferred(table, x, mask) {
+            return 1;
+        }
+        if preference::preferred(table, mask, x) {
+            continue;
+        }
+        found = 2;
+    }
+    found
+}
+
+// z is a sub-argument of one with the mask y, and its literal is in the set.
+fn attacked(excluded: LiteralSet, y: u64, z: u32) -> bool
+    ensures { λ r. ⌜ r ≡ attackedBy (setOf excluded) y z ⌝ }
+{
+    masks::within(numbers::mask_of(z), y) && excluded.has(numbers::literal_of(z))
+}
