@@ -7,9 +7,9 @@ use mathlib.Core.Logic.{_≢_}
 use Prim.Native.Nat.{ℕ, zero, suc, _+_, _-_, _≤_, _<_}
 use native.Mathlib.Omega.{arith}
 use native.Mathlib.Numerals.{add-one}
-use lib.ListN.{length, getD, take, drop, length-take, drop-of-length-le}
+use lib.ListN.{length, getD, take, drop, drop-of-length-le}
 use lib.Seq.{getD-take, length-take-le}
-use lib.Dec.{T, eqb}
+use lib.Dec.{T}
 use Rattle.defeat.specs.Tests.{Tests}
 use Rattle.tree.specs.Reply.{replyKind}
 use Rattle.tree.specs.Forest.{Forest, none, tree, size, allDefeated, markOf, from, replies}
@@ -52,10 +52,10 @@ settle-reply mark false r = refl
 -- ---- the candidates
 
 module _ (t : Tests ℕ) {arguments : List ℕ} {count : ℕ} (L : Listing t arguments count) (l : List ℕ) where
-  at-list : (j : ℕ) → j < count → getD (t .arguments) j 0 ≡ getD arguments j 0
+  pub at-list : (j : ℕ) → j < count → getD (t .arguments) j 0 ≡ getD arguments j 0
   at-list j h = ap (λ (m : List ℕ). getD m j 0) (sym (L .listed)) ∙ getD-take count arguments j 0 h
 
-  list-length : length (t .arguments) ≡ count
+  pub list-length : length (t .arguments) ≡ count
   list-length = ap length (sym (L .listed)) ∙ length-take-le count arguments (L .counted)
 
   pub replies-all : repliesFrom t l 0 ≡ replies t l
@@ -107,7 +107,7 @@ module _ (t : Tests ℕ) (l : List ℕ) (at limit : ℕ) (before : Columns) wher
         (preorder (indexIn (t .arguments)) next at (repliesFrom t l j)) next tables
     pub settles : settle mark (allDefeated (repliesFrom t l j)) ≡ markOf (allDefeated (replies t l))
 
-built-end : {es : List Entry} {at limit r : ℕ} {before after : Columns} → Built es at limit r before after → r ≤ limit
+pub built-end : {es : List Entry} {at limit r : ℕ} {before after : Columns} → Built es at limit r before after → r ≤ limit
     → r ≡ at + length es
 built-end (fits e le w) h = e
 built-end (over e lt k) h = absurd (omega arith)

@@ -12,3 +12,7 @@ pub mod Growing
 pub mod Steps
 pub mod Listings
 pub mod Turn
+pub mod Sides
+pub mod Asking
+pub mod Trees
+pub mod RootTurn

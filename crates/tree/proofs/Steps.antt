@@ -1,7 +1,7 @@
 -- From what a step is asked to what it asks of a candidate and of a reply's step. Assumes nothing.
 use mathlib.Core.Path.{_≡_, refl, sym, ap, _∙_, subst}
 use mathlib.Core.List.{List, [], _∷_, List·Memᴰ, List·Memᴰ·head, List·Memᴰ·tail}
-use Prim.Native.Nat.{ℕ, zero, suc, _+_, _≤_, _<_}
+use Prim.Native.Nat.{ℕ, zero, suc, _+_, _-_, _≤_, _<_}
 use native.Mathlib.Omega.{arith}
 use native.Mathlib.Numerals.{add-one}
 use lib.ListN.{length, getD, take, set}
@@ -29,6 +29,11 @@ line-more line depth x h =
     let e = getD-set-same line depth x 0 h in
     let r = line-same line depth depth x (omega arith) in
     rw add-one (cc)
+
+-- its last argument, and the others
+pub line-last : (line : List ℕ) (depth : ℕ) → 0 < depth → lineOf line depth ≡ getD line (depth - 1) 0 ∷ lineOf line (depth - 1)
+line-last line zero h = absurd (omega arith)
+line-last line (suc depth) h = let e : suc depth - 1 ≡ depth = omega arith in rw e
 
 -- one less
 pub line-less : (line before : List ℕ) (depth x : ℕ) → lineOf line (depth + 1) ≡ x ∷ lineOf before depth

@@ -1,14 +1,14 @@
 -- Entries written into the four tables of a forest, one run after another: what is written and what is left make up the
 -- whole. Assumes nothing.
-use mathlib.Core.Path.{_≡_, refl, sym, ap, _∙_}
-use mathlib.Core.List.{List, [], _∷_, _++_, map, map-append}
-use Prim.Native.Nat.{ℕ, suc, _+_, _≤_, _<_}
+use mathlib.Core.Path.{_≡_, ap, _∙_}
+use mathlib.Core.List.{List, _∷_, _++_, map, map-append}
+use Prim.Native.Nat.{ℕ, _+_, _≤_, _<_}
 use native.Mathlib.Omega.{arith}
-use lib.ListN.{length, getD, drop, set, length-append, length-map}
-use lib.Seq.{sets, length-sets, drop-set-lt}
+use lib.ListN.{length, getD, drop, length-map}
+use lib.Seq.{sets}
 use Rattle.tree.specs.Entries.{Entry}
-use Rattle.tree.specs.Tables.{Columns, columns, written, past, Built, fits, over}
-use Rattle.tree.proofs.Stores.{sets-append, drop-sets, set-sets, getD-first}
+use Rattle.tree.specs.Tables.{Columns, columns, written, past}
+use Rattle.tree.proofs.Stores.{sets-append, drop-sets, getD-first}
 
 -- ---- one column
 

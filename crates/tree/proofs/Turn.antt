@@ -1,10 +1,10 @@
 -- A step on its way: the replies up to a candidate are written. One record of what holds then serves both sides. Assumes
 -- nothing.
-use mathlib.Core.Path.{_≡_, refl, sym, ap, _∙_, subst}
+use mathlib.Core.Path.{_≡_, refl, sym, ap, _∙_}
 use mathlib.Core.List.{List, _∷_}
 use Prim.Native.Nat.{ℕ, suc, _+_, _≤_, _<_}
 use native.Mathlib.Omega.{arith}
-use lib.ListN.{length, getD, set, length-set}
+use lib.ListN.{length, getD, length-set}
 use Rattle.literals.specs.Sets.{union}
 use Rattle.argument.specs.Argument.{maskOf}
 use Rattle.defeat.specs.Tests.{Tests}
@@ -14,7 +14,7 @@ use Rattle.tree.specs.OfLiteral.{indexIn}
 use Rattle.tree.specs.Tables.{Columns, columns, Hold, Built}
 use Rattle.tree.specs.Steps.{lineOf, treeEntries, settledBy, Prepared, testsIn, Ready, Asked, FirstReply, Enters, Entered}
 use Rattle.tree.proofs.Progress.{opened, closed}
-use Rattle.tree.proofs.Growing.{Listing, Going, going-start, going-end, going-over, going-step, tree-room, tree-none, tree-over, tree-end}
+use Rattle.tree.proofs.Growing.{Going, going-start, going-end, going-over, going-step, tree-room, tree-none, tree-over, tree-end}
 use Rattle.tree.proofs.Steps.{line-same, line-more, line-less, ready-asked, ready-reply}
 use Rattle.tree.proofs.Listings.{prepared-count, prepared-listing}
 
@@ -25,7 +25,7 @@ pub record Long (t u : Columns) : Type 0 where
   pub kinds-long : length (t .kinds) ≡ length (u .kinds)
   pub marks-long : length (t .marks) ≡ length (u .marks)
 
-long-trans : {t u v : Columns} → Long t u → Long u v → Long t v
+pub long-trans : {t u v : Columns} → Long t u → Long u v → Long t v
 long-trans a b = record {
   arguments-long = a .arguments-long ∙ b .arguments-long;
   parents-long = a .parents-long ∙ b .parents-long;
@@ -33,7 +33,7 @@ long-trans a b = record {
   marks-long = a .marks-long ∙ b .marks-long;
 }
 
-hold-long : (n : ℕ) {t u : Columns} → Long t u → Hold n u → Hold n t
+pub hold-long : (n : ℕ) {t u : Columns} → Long t u → Hold n u → Hold n t
 hold-long n a h = record {
   arguments-hold = omega (arith, a .arguments-long, h .arguments-hold);
   parents-hold = omega (arith, a .parents-long, h .parents-hold);

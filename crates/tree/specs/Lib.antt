@@ -1,5 +1,5 @@
 -- Argumentation lines, dialectical trees and marks: as published (Line, Marks), as computed (Reply, Forest, Entries,
--- OfLiteral), and in lent tables (Tables, Steps).
+-- OfLiteral), and in lent tables (Tables, Steps, Roots).
 pub mod Line
 pub mod Marks
 pub mod Reply
@@ -8,3 +8,4 @@ pub mod Entries
 pub mod OfLiteral
 pub mod Tables
 pub mod Steps
+pub mod Roots

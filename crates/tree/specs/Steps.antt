@@ -8,13 +8,11 @@ use lib.Dec.{eqb}
 use Rattle.lists.specs.Lists.{Within}
 use Rattle.literals.specs.Sets.{choose, union}
 use Rattle.program.specs.Program.{Program, defeasibles}
-use Rattle.program.specs.Limits.{Limits}
-use Rattle.program.specs.Table.{Holds}
 use Rattle.argument.specs.Argument.{maskOf}
-use Rattle.argument.specs.List.{argumentList}
-use Rattle.argument.specs.Closures.{Room, Filled}
+use Rattle.argument.specs.Closures.{Room}
 use Rattle.defeat.specs.Tests.{Tests}
 use Rattle.defeat.specs.Preference.{preferredTest}
+use Rattle.defeat.specs.Exclusions.{Ready as Made}
 use Rattle.defeat.specs.OfProgram.{testsOf}
 use Rattle.tree.specs.Reply.{mine, theirs, replyKind, lastKind}
 use Rattle.tree.specs.Forest.{none, tree, replies}
@@ -43,12 +41,10 @@ settledBy mark reply = choose (eqb reply 1) 2 mark
 -- the tables that a call lends down hold one program: its rules, its closures, its exclusion sets and its argument list
 pub record Prepared (table closures exclusions arguments : List ℕ) (count : ℕ) : Type 0 where
   pub program : Program
-  pub limits : Limits program
-  pub holds : Holds program table
+  pub conclusions : ℕ
+  pub made : Made program conclusions table closures exclusions arguments count
   pub room : Room (defeasibles (program .rules)) closures
-  pub filled : Filled (program .rules) (2 ^ defeasibles (program .rules)) closures
   pub counted : count ≤ length arguments
-  pub listed : take count arguments ≡ argumentList (program .rules)
 
 module _ {table closures exclusions arguments : List ℕ} {count : ℕ} where
   abbrev pub testsIn : Prepared table closures exclusions arguments count → Tests ℕ
