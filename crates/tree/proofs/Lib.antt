@@ -5,3 +5,14 @@ pub mod Forest
 pub mod Entries
 pub mod Marks
 pub mod Exclusion
+pub mod Stores
+pub mod Tables
+pub mod Progress
+pub mod Growing
+pub mod Steps
+pub mod Listings
+pub mod Turn
+pub mod Sides
+pub mod Asking
+pub mod Trees
+pub mod RootTurn

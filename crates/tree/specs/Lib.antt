@@ -1,7 +1,11 @@
--- Argumentation lines, dialectical trees and marks: as published (Line, Marks), then as computed (Reply, Forest,
--- Entries).
+-- Argumentation lines, dialectical trees and marks: as published (Line, Marks), as computed (Reply, Forest, Entries,
+-- OfLiteral), and in lent tables (Tables, Steps, Roots).
 pub mod Line
 pub mod Marks
 pub mod Reply
 pub mod Forest
 pub mod Entries
+pub mod OfLiteral
+pub mod Tables
+pub mod Steps
+pub mod Roots

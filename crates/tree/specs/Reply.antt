@@ -42,3 +42,9 @@ module _ {A : Type 0} (t : Tests A) where
   unfoldable pub replyKind : List A → A → ℕ
   replyKind [] y = 0
   replyKind (x ∷ l) y = permit (kind t y x) (joins (x ∷ l) y)
+
+  -- the kind of the line's last argument, 0 for a root
+  abbrev pub lastKind : List A → ℕ
+  lastKind [] = 0
+  lastKind (x ∷ []) = 0
+  lastKind (x ∷ w ∷ l) = kind t x w

@@ -1,1 +1,6 @@
-// Argumentation lines, dialectical trees, marks. specs/ has the definitions, proofs/ the theorems about them.
+// Argumentation lines, dialectical trees and marks. specs/ has the definitions, proofs/ the theorems that join the
+// published and the computed ones.
+
+mod candidates;
+pub mod roots;
+mod turns;

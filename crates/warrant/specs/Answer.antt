@@ -1,19 +1,17 @@
 -- Answers as document 01 has them, under its heading "Answers".
 use mathlib.Core.Path.{_≡_}
 use mathlib.Core.Bool.{Bool, true, false}
-use mathlib.Core.List.{List, [], _∷_, _++_, List·Memᴰ}
-use Prim.Native.Nat.{ℕ, suc, _/_}
+use mathlib.Core.List.{_∷_, List·Memᴰ}
+use Prim.Native.Nat.{ℕ, _/_}
 use lib.Dec.{eqb, ltb}
-use Rattle.lists.specs.Lists.{any, filter}
-use Rattle.literals.specs.Sets.{choose}
+use Rattle.lists.specs.Lists.{any}
 use Rattle.program.specs.Program.{Rule, Program}
 use Rattle.derivation.specs.Derivation.{complement}
-use Rattle.argument.specs.Argument.{literalOf}
 use Rattle.defeat.specs.Tests.{Tests}
 use Rattle.defeat.specs.Preference.{preferredTest}
 use Rattle.defeat.specs.OfProgram.{testsOf}
-use Rattle.tree.specs.Forest.{Forest, size, forestOf, undefeatedRoot}
-use Rattle.tree.specs.Entries.{Entry, entries}
+pub use Rattle.tree.specs.OfLiteral.{indexIn, nodeCount, forestEntries}
+unfoldable pub use Rattle.tree.specs.OfLiteral.{argumentsFor, forest, warranted}
 use Rattle.warrant.specs.declared.Answer.{Answer}
 use Rattle.warrant.specs.declared.Answer.the-variants.{Yes, No, Undecided, Unknown, Unfinished, Refused}
 
@@ -27,32 +25,6 @@ pub record Occurs (p : Program) (h : ℕ) : Type 0 where
 
 unfoldable pub occurs : Program → ℕ → Bool
 occurs p h = any (λ r. any (λ l. eqb (l / 2) (h / 2)) (r .head ∷ r .body)) (p .rules)
-
--- the first place at which a number stands in a list: "index in the argument list"
-abbrev pub indexIn : List ℕ → ℕ → ℕ
-indexIn [] x = 0
-indexIn (y ∷ l) x = let later = indexIn l x in choose (eqb y x) 0 (suc later)
-
-module _ (t : Tests ℕ) where
-  -- the arguments for h, in list order
-  unfoldable pub argumentsFor : ℕ → List ℕ
-  argumentsFor h = filter (λ x. eqb (literalOf x) h) (t .arguments)
-
-  -- "The forest of h is the tree of each argument for h in list order, then those for its complement."
-  unfoldable pub forest : ℕ → Forest ℕ
-  forest h = forestOf t (argumentsFor h ++ argumentsFor (complement h))
-
-  -- "N is its number of nodes, nothing pruned."
-  abbrev pub nodeCount : ℕ → ℕ
-  nodeCount h = size (forest h)
-
-  -- "Node entries stand in preorder"
-  abbrev pub forestEntries : ℕ → List Entry
-  forestEntries h = entries (indexIn (t .arguments)) 0 (forest h)
-
-  -- "h has a root marked U"
-  unfoldable pub warranted : ℕ → Bool
-  warranted h = any (undefeatedRoot t) (argumentsFor h)
 
 -- the answers by the tests that decide between them, "4 UNKNOWN", "otherwise", "5 UNFINISHED", "Else, with N nodes"
 abbrev pub answerOf : (occurring over won lost : Bool) (budget n : ℕ) → Answer

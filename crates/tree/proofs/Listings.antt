@@ -1,0 +1,90 @@
+-- What the tables that a call lends down say of the argument list: each argument once, at its index. Assumes nothing.
+use mathlib.Core.Path.{_≡_, refl, sym, ap, _∙_, subst}
+use mathlib.Core.List.{List, [], _∷_, List·Memᴰ, List·Memᴰ·head, List·Memᴰ·tail}
+use Prim.Native.Nat.{ℕ, zero, suc, _+_, _*_, _^_, _≤_, _<_}
+use native.Mathlib.Omega.{arith}
+use native.Mathlib.Nat.{pow-le-pow-right}
+use lib.ListN.{length, getD, take}
+use lib.Seq.{getD-take, length-take-le}
+use borrow.Author.Tests.{eq-eqb, ne-eqb}
+use Rattle.literals.specs.Sets.{within}
+use Rattle.literals.proofs.Tests.{true-T}
+use Rattle.literals.proofs.Within.{within-refl}
+use Rattle.program.specs.Program.{defeasibles}
+use Rattle.argument.specs.Argument.{maskOf}
+use Rattle.argument.specs.List.{argumentList, Ascends}
+use Rattle.argument.proofs.Lists.{list-ascends}
+use Rattle.defeat.specs.OfProgram.{testsOf}
+use Rattle.tree.specs.OfLiteral.{indexIn}
+use Rattle.tree.specs.Steps.{Prepared, testsIn}
+use Rattle.tree.proofs.Growing.{Listing}
+
+-- ---- a list that ascends
+
+ascends-length : (l : List ℕ) (low high : ℕ) → Ascends low high l → low + length l ≤ high
+ascends-length [] low high a = omega arith
+ascends-length (x ∷ l) low high a = let r = ascends-length l (suc x) high (a .2) in let h = a .0 in omega arith
+
+ascends-low : (l : List ℕ) (low high j : ℕ) → Ascends low high l → j < length l → low ≤ getD l j 0
+ascends-low [] low high j a h = absurd (omega arith)
+ascends-low (x ∷ l) low high zero a h = a .0
+ascends-low (x ∷ l) low high (suc j) a h =
+    let r = ascends-low l (suc x) high j (a .2) (omega arith) in
+    let b = a .0 in
+    omega arith
+
+pub ascends-high : (l : List ℕ) (low high x : ℕ) → Ascends low high l → List·Memᴰ x l → x < high
+ascends-high (y ∷ l) low high x a (List·Memᴰ·head e) = let b = a .1 in omega arith
+ascends-high (y ∷ l) low high x a (List·Memᴰ·tail i) = ascends-high l (suc y) high x (a .2) i
+
+-- each number's first place is the only one
+pub index-at : (l : List ℕ) (low high j : ℕ) → Ascends low high l → j < length l → indexIn l (getD l j 0) ≡ j
+index-at [] low high j a h = absurd (omega arith)
+index-at (x ∷ l) low high zero a h = rw (eq-eqb x x refl)
+index-at (x ∷ l) low high (suc j) a h =
+    let b = ascends-low l (suc x) high j (a .2) (omega arith) in
+    rw (ne-eqb x (getD l j 0) (λ e. omega arith), index-at l (suc x) high j (a .2) (omega arith))
+
+-- ---- the tables
+
+module _ {table closures exclusions arguments : List ℕ} {count : ℕ} (w : Prepared table closures exclusions arguments count) where
+  abbrev l : List ℕ
+  l = argumentList (w .program .rules)
+
+  listed-length : length l ≡ count
+  listed-length = ap length (sym (w .made .listed)) ∙ length-take-le count arguments (w .counted)
+
+  few : 2 ^ defeasibles (w .program .rules) ≤ 2 ^ 16
+  few = pow-le-pow-right {n = 2} (omega arith) {i = defeasibles (w .program .rules)} {j = 16} (w .made .limits .defeasibles-limit)
+
+  -- a listed argument's mask is one of the program's
+  pub prepared-mask : (x : ℕ) → List·Memᴰ x (take count arguments) → maskOf x < 2 ^ defeasibles (w .program .rules)
+  prepared-mask x i =
+      let n : ℕ = 2 ^ defeasibles (w .program .rules) in
+      let h = ascends-high l 0 (n * 128) x (list-ascends (w .program .rules)) (rw (w .made .listed) at i) in
+      omega arith
+
+  -- such a mask has an entry in the closure table
+  pub prepared-entry : (m : ℕ) → m < 2 ^ defeasibles (w .program .rules) → (m < 65536) × (2 * m + 1 < length closures)
+  prepared-entry m h = (omega (arith, few), omega (arith, w .room .long))
+
+  -- an argument's number fits
+  pub prepared-small : (x : ℕ) → List·Memᴰ x (take count arguments) → x < 2 ^ 23
+  prepared-small x i = let h = prepared-mask x i in omega (arith, few)
+
+  -- an index fits
+  pub prepared-count : count ≤ 8388608
+  prepared-count =
+      let a = ascends-length l 0 (2 ^ defeasibles (w .program .rules) * 128) (list-ascends (w .program .rules)) in
+      omega (arith, listed-length, few)
+
+  pub prepared-listing : Listing (testsIn w) arguments count
+  unfolding testsOf
+  prepared-listing = record {
+    itself = λ x i. true-T (within (maskOf x) (maskOf x)) (within-refl (maskOf x));
+    counted = w .counted;
+    listed = w .made .listed;
+    placed = λ j h.
+        subst (λ (x : ℕ). indexIn l x ≡ j) (ap (λ (m : List ℕ). getD m j 0) (sym (w .made .listed)) ∙ getD-take count arguments j 0 h)
+        (index-at l 0 (2 ^ defeasibles (w .program .rules) * 128) j (list-ascends (w .program .rules)) (omega (arith, listed-length)));
+  }

@@ -1,0 +1,81 @@
+-- The tests in turn: of the candidate's side, of the line, of defeat, of the rule on blocking defeaters.
+use borrow.Author.Needs.{needs}
+use Rattle.tree.proofs.Asking.{asking-entry, asking-numbers, asking-kind, asking-discordant, asking-used, asking-free}
+use borrow.Author.Needs.{needs}
+use Rattle.tree.proofs.candidates.reply_kind.Statement.{statement}
+use Rattle.tree.proofs.candidates.reply_kind.Tie as tie
+
+mul-x : tie.Need-mul-x
+mul-x c = search needs
+
+shared-slice-read-x : tie.Need-shared-slice-read-x
+shared-slice-read-x c = search needs
+
+mask-of-requires : tie.Need-mask-of-requires
+mask-of-requires c κs = search needs
+
+contradictory-requires : tie.Need-contradictory-requires
+contradictory-requires c κs = asking-entry (c .before .before .before .before .before .pre .0) (c .before .before .before .before .before .args .j) (c .before .before .before .before .before .pre .1) (c .mask-of .result) (c .mask-of .ensures)
+
+returns : tie.Need-returns
+returns c =
+    let s = c .before .before .before .before .before .before .before in
+    let m = c .before .before .mask-of in
+    let k = c .before .contradictory in
+    λ w. asking-discordant (s .pre .0) (s .args .j) (s .pre .1) w (m .result) (m .ensures) (k .result) (k .ensures) (c .if1 .taken)
+
+used-requires : tie.Need-used-requires
+used-requires c κs = c .before .before .before .before .before .before .before .pre .0 .line-holds
+
+returns-2 : tie.Need-returns-2
+returns-2 c =
+    let s = c .before .before .before .before .before .before .before .before .before in
+    let m = c .before .before .before .before .mask-of in
+    let k = c .before .before .before .contradictory in
+    let u = c .before .used in
+    λ w. asking-used (s .pre .0) (s .args .j) (s .pre .1) w (m .result) (m .ensures) (k .result) (k .ensures) (u .result) (u .ensures)
+    (c .if2 .taken)
+
+sub-y : tie.Need-sub-y
+sub-y c = search needs
+
+mul-y : tie.Need-mul-y
+mul-y c = search needs
+
+shared-slice-read-y : tie.Need-shared-slice-read-y
+shared-slice-read-y c = search needs
+
+kind-requires : tie.Need-kind-requires
+kind-requires c κs = (asking-numbers (c .before .before .before .before .before .before .before .before .before .before .pre .0) (c .before .before .before .before .before .before .before .before .before .before .args .j) (c .before .before .before .before .before .before .before .before .before .before .pre .1), asking-kind (c .before .before .before .before .before .before .before .before .before .before .pre .0) (c .before .before .before .before .before .before .before .before .before .before .args .j) (c .before .before .before .before .before .before .before .before .before .before .pre .1))
+
+follow-requires : tie.Need-follow-requires
+follow-requires c κs = search needs
+
+returns-3 : tie.Need-returns-3
+returns-3 c =
+    let s = c .before .before .before .before .before .before .before .before .before .before .before .before in
+    let m = c .before .before .before .before .before .before .before .mask-of in
+    let k = c .before .before .before .before .before .before .contradictory in
+    let u = c .before .before .before .before .used in
+    let d = c .before .kind in
+    λ w. asking-free (s .pre .0) (s .args .j) (s .pre .1) w (m .result) (m .ensures) (k .result) (k .ensures) (u .result) (u .ensures)
+    (c .before .before .before .before .before .if1 .left) (c .before .before .before .if2 .left) (d .result) (c .follow .result) (d .ensures (w .program) (w .conclusions) (w .made))
+    (c .follow .ensures)
+
+pub reply-kind-spec : {M : Type 1} → statement M
+reply-kind-spec =
+    tie.close
+    (tie.spec
+    mul-x
+    shared-slice-read-x
+    mask-of-requires
+    contradictory-requires
+    returns
+    used-requires
+    returns-2
+    sub-y
+    mul-y
+    shared-slice-read-y
+    kind-requires
+    follow-requires
+    returns-3)
