@@ -2,10 +2,6 @@
 
 use foqtirel_tests::generator::Verdict;
 
-/// True if the library's check goes on to cause 14. As long as it doesn't, an image whose only
-/// fault is 14 counts as accepted there.
-pub const CHECKS_CONTRADICTION: bool = true;
-
 /// True if the library was linked.
 pub const LINKED: bool = cfg!(probe);
 

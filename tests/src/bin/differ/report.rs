@@ -5,7 +5,7 @@ use std::collections::BTreeMap;
 use foqtirel_tests::generator::Verdict;
 
 const PROGRESS_EVERY: usize = 5_000;
-/// Each of the causes 1 to 13 must be seen so often.
+/// Each of the causes 1 to 14 must be seen so often.
 const LEAST_PER_CAUSE: usize = 100;
 /// Differences beyond these are counted but not printed.
 const MOST_PRINTED: usize = 20;
@@ -50,7 +50,7 @@ impl Report {
         println!("accepted: {} images agreed", seen(0));
         for cause in 1..=14 {
             println!("cause {cause}: {} images agreed", seen(cause));
-            if cause <= 13 && seen(cause) < LEAST_PER_CAUSE {
+            if seen(cause) < LEAST_PER_CAUSE {
                 println!("cause {cause} was seen fewer than {LEAST_PER_CAUSE} times");
                 sound = false;
             }
