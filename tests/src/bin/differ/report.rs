@@ -10,6 +10,15 @@ const LEAST_PER_CAUSE: usize = 100;
 /// Differences beyond these are counted but not printed.
 const MOST_PRINTED: usize = 20;
 
+pub fn print_difference(image: &[u8], opinions: &[(&str, String)]) {
+    let hexadecimal: Vec<String> = image.iter().map(|byte| format!("{byte:02X}")).collect();
+    println!("DIFFERENCE in an image of {} bytes", image.len());
+    for (who, what) in opinions {
+        println!("  {who}: {what}");
+    }
+    println!("  image: {}", hexadecimal.join(" "));
+}
+
 #[derive(Default)]
 pub struct Report {
     compared: usize,
@@ -26,12 +35,7 @@ impl Report {
     pub fn differed(&mut self, image: &[u8], opinions: &[(&str, String)]) {
         self.differences += 1;
         if self.differences <= MOST_PRINTED {
-            let hexadecimal: Vec<String> = image.iter().map(|byte| format!("{byte:02X}")).collect();
-            println!("DIFFERENCE in an image of {} bytes", image.len());
-            for (who, what) in opinions {
-                println!("  {who}: {what}");
-            }
-            println!("  image: {}", hexadecimal.join(" "));
+            print_difference(image, opinions);
         }
         self.count_one();
     }
