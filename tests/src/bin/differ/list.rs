@@ -18,7 +18,7 @@ const DAMAGED: usize = 4_000;
 const MOST_QUICK: usize = 12;
 /// ... so only so many of them are compared, of the programs and of the damaged images each.
 const MOST_SLOW: usize = 40;
-/// A table over 65,536 entries is lent for one image in so many.
+/// A table of 65,536 entries or more is lent for one image in so many.
 const LONG_TABLE_EVERY: usize = 25;
 const REFUSED_23: u64 = 23 << 32;
 
@@ -65,7 +65,8 @@ fn compare_image(source: Source, image: &[u8], random: &mut Random, report: &mut
         compare_call(image, &analysis, length, random, report);
     }
     if random.below(LONG_TABLE_EVERY) == 0 {
-        let length = 65_536 + random.between(1, 20_000);
+        let more = random.between(2, 20_000);
+        let length = 65_536 + random.pick(&[0, 1, more]);
         compare_call(image, &analysis, length, random, report);
     }
     report.count_image(source, analysis.is_ok(), defeasible_rules(image));
