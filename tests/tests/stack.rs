@@ -112,8 +112,9 @@ fn suffices(stack: usize, what: &str) -> bool {
     if output.status.success() {
         assert!(printed.contains("listed "), "nothing was listed: {printed}");
     } else {
-        let overflow = complaint.contains("overflowed its stack");
-        assert!(overflow, "failed for another reason: {complaint}");
+        // A stack that is left ends the process by a signal, so it has no code.
+        let by_signal = output.status.code().is_none();
+        assert!(by_signal, "failed for another reason: {complaint}");
     }
     output.status.success()
 }
