@@ -46,7 +46,10 @@ fn close(table: &[Row], mask: u64) -> (u64, u64) {
     loop {
         let before = (low, high);
         for row in table {
-            if row.need & mask == row.need && row.low & low == row.low && row.high & high == row.high {
+            if row.need & mask == row.need
+                && row.low & low == row.low
+                && row.high & high == row.high
+            {
                 if row.head < 64 {
                     low |= 1 << row.head;
                 } else {

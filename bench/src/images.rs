@@ -26,7 +26,9 @@ pub fn random(seed: u64) -> Vec<u8> {
     let mut rules: Vec<RuleText> = Vec::new();
     while rules.len() < 96 {
         let number = rules.len();
-        let mut body: Vec<u8> = (0..random.below(5)).map(|_| 2 * random.below(64) as u8).collect();
+        let mut body: Vec<u8> = (0..random.below(5))
+            .map(|_| 2 * random.below(64) as u8)
+            .collect();
         body.sort_unstable();
         body.dedup();
         let defeasible = number % 12 == 5 && !body.is_empty();
@@ -42,7 +44,13 @@ pub fn random(seed: u64) -> Vec<u8> {
 pub fn chain(reversed: bool) -> Vec<u8> {
     let mut rules = vec![rule(false, 0, &[])];
     for number in 1..96usize {
-        let literal = |n: usize| if n < 64 { 2 * n as u8 } else { 2 * (n - 64) as u8 + 1 };
+        let literal = |n: usize| {
+            if n < 64 {
+                2 * n as u8
+            } else {
+                2 * (n - 64) as u8 + 1
+            }
+        };
         rules.push(rule(false, literal(number), &[literal(number - 1)]));
     }
     if reversed {

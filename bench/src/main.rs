@@ -1,8 +1,9 @@
-//! Times the proved library against the same loops in Rust, both built for release, in one run. Each figure is the best of
+//! Times the proved library against loops in Rust, both built for release, in one run. Each figure is the best of
 //! several turns that alternate between the two, so that a load on the machine falls on both.
 
 mod closing;
 mod images;
+mod listing;
 mod probe;
 
 use std::time::Instant;
@@ -26,4 +27,6 @@ pub fn best_of(mut proved: impl FnMut() -> u64, mut plain: impl FnMut() -> u64) 
 
 fn main() {
     closing::report();
+    println!();
+    listing::report();
 }
