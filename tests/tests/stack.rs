@@ -140,7 +140,6 @@ fn everything_is_listed_on_4_mib() {
 }
 
 #[test]
-#[ignore = "the library reserves its greatest table whatever the program"]
 fn few_defeasible_rules_take_little_stack() {
     assert!(suffices(128 * KIB, "upto=8"), "8 rules on 128 KiB");
     assert!(suffices(512 * KIB, "upto=12"), "12 rules on 512 KiB");

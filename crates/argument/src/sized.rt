@@ -26,7 +26,7 @@ pub fn list(table: &RuleTable, arguments: &mut [u32]) -> Listed
     if bits <= 12 {
         return middle(table, arguments);
     }
-    large(table, arguments)
+    large(table, arguments, bits)
 }
 
 fn small(table: &RuleTable, arguments: &mut [u32]) -> Listed
@@ -53,13 +53,21 @@ fn middle(table: &RuleTable, arguments: &mut [u32]) -> Listed
     crate::list(table, &mut closures, arguments)
 }
 
-fn large(table: &RuleTable, arguments: &mut [u32]) -> Listed
+// The branch is for the compiler, and no call takes it: a function that calls itself is not merged into its caller, whose
+// frame would otherwise have this table's megabyte too.
+fn large(table: &RuleTable, arguments: &mut [u32], bits: u64) -> Listed
     requires { ⌜ Numbered (now table) ⌝ }
     ensures result { λ r. ⌜ ((p : Program) → Limits p → Holds p (now (table .entry))
         → r ≡ listed (argumentList (p .rules)) (now (arguments .entry))) ⌝ }
     ensures written { λ _. ⌜ ((p : Program) → Limits p → Holds p (now (table .entry))
         → now (arguments .exit) ≡ withList (argumentList (p .rules)) (now (arguments .entry))) ⌝ }
 {
+    if 16 < bits {
+        return match large(table, arguments, bits - 1) {
+            Listed::Over => large(table, arguments, bits - 2),
+            Listed::Count(count) => Listed::Count(count),
+        };
+    }
     let mut closures = [0u64; 131072];
     crate::list(table, &mut closures, arguments)
 }

@@ -82,16 +82,28 @@ fn within_limits(atoms: u16, rules: u16, pairs: u16, zero: u16, next: Cursor) ->
     ensures { λ r. ⌜ r ≡ headerWith atoms rules pairs zero next ⌝ }
 {
     if 64 < atoms {
-        return Header::Refused { number: 2, place: 0 };
+        return Header::Refused {
+            number: 2,
+            place: 0,
+        };
     }
     if 96 < rules {
-        return Header::Refused { number: 2, place: 0 };
+        return Header::Refused {
+            number: 2,
+            place: 0,
+        };
     }
     if 240 < pairs {
-        return Header::Refused { number: 2, place: 0 };
+        return Header::Refused {
+            number: 2,
+            place: 0,
+        };
     }
     if zero != 0 {
-        return Header::Refused { number: 2, place: 0 };
+        return Header::Refused {
+            number: 2,
+            place: 0,
+        };
     }
     let counts = Counts {
         atoms: atoms as usize,
