@@ -1,4 +1,5 @@
-//! Links the native library for `differ` only when FOQTIREL_LIB_DIR names its directory.
+//! Links the native library for `differ` and the stack test only when FOQTIREL_LIB_DIR names its
+//! directory.
 
 fn main() {
     println!("cargo:rustc-check-cfg=cfg(probe)");
@@ -8,6 +9,7 @@ fn main() {
         if !directory.is_empty() {
             println!("cargo:rustc-cfg=probe");
             println!("cargo:rustc-link-search=native={directory}");
+            println!("cargo:rustc-env=PROBE_DIRECTORY={directory}");
             println!("cargo:rerun-if-changed={directory}/libprobe.a");
         }
     }

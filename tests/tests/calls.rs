@@ -1,6 +1,6 @@
 //! Refusals 20 to 23 in their order, and what every call does to the lent tables.
 
-use foqtirel_tests::generator::Description;
+use foqtirel_tests::generator::{all_applicable, many_arguments, Description, MANY_ARGUMENTS};
 use foqtirel_tests::reference::{
     check, host_call, list, query, Analysis, Answer, Cause, Code, NodeEntry, Refusal,
 };
@@ -180,43 +180,29 @@ fn the_host_call_packs_its_answer() {
     assert_eq!(host_call(&many_arguments().image(), 2, 10), 23);
 }
 
-/// A literal with 2,000 arguments and 38 more that follow from it.
-///
-/// Sixteen defeasible rules fall into groups of five, five and six; a group counts when two,
-/// two and three of its rules are used, and all three groups together give the literal.
-fn many_arguments() -> Description {
-    let mut text = "0".to_string();
-    let heads: Vec<usize> = (1..=16).map(|atom| 2 * atom).collect();
-    for head in &heads {
-        text += &format!("; d {head}<0");
-    }
-    for (group, members) in [(34, &heads[0..5]), (36, &heads[5..10])] {
-        for (i, one) in members.iter().enumerate() {
-            for two in &members[i + 1..] {
-                text += &format!("; {group}<{one},{two}");
+#[test]
+fn each_rule_that_applies_is_an_argument() {
+    for rules in [0, 1, 8, 16] {
+        let image = all_applicable(rules).image();
+        let mut table = vec![0; rules + 1];
+        assert_eq!(list(&image, &mut table), Ok(rules + 1));
+        let argument = |rule: usize| {
+            if rule == 0 {
+                0
+            } else {
+                (128 << (rule - 1)) + 2 * rule
             }
-        }
+        };
+        let expected: Vec<u32> = (0..=rules).map(|rule| argument(rule) as u32).collect();
+        assert_eq!(table, expected);
     }
-    let members = &heads[10..16];
-    for (i, one) in members.iter().enumerate() {
-        for (j, two) in members.iter().enumerate().skip(i + 1) {
-            for three in &members[j + 1..] {
-                text += &format!("; 38<{one},{two},{three}");
-            }
-        }
-    }
-    text += "; 40<34,36,38";
-    for atom in 21..=58 {
-        text += &format!("; {}<40", 2 * atom);
-    }
-    Description::parse(&text).expect("a program")
 }
 
 #[test]
 fn a_list_can_be_longer_than_all_masks() {
     let image = many_arguments().image();
     let supporting_each = 10 * 10 * 20;
-    let count = 1 + 16 + (10 + 10 + 20) + 39 * supporting_each;
+    let count = MANY_ARGUMENTS;
     assert!(count > 65_536);
     let analysis = Analysis::of_image(&image).expect("a sound image");
     assert_eq!(analysis.arguments.len(), count);

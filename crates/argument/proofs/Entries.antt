@@ -2,13 +2,14 @@
 use mathlib.Core.Path.{_≡_, refl, sym, ap, ap₂, _∙_, subst}
 use mathlib.Core.Bool.{Bool, true, false, not, _&&_, false≢true}
 use mathlib.Core.List.{List}
-use mathlib.Core.Logic.{_⊎_, inl, inr, ⊎-elim}
-use Prim.Native.Nat.{ℕ, _+_, _*_, _^_, _<_}
+use mathlib.Core.Logic.{_⊎_, inl, inr}
+use Prim.Native.Nat.{ℕ, _+_, _*_, _^_, _<_, _≤_}
 use native.Mathlib.Nat.{eq-or-lt-of-le}
 use native.Mathlib.Decide.{ℕ-discrete}
 use native.Mathlib.Omega.{arith}
 use lib.Dec.{eqb}
 use lib.ListN.{length, getD, set, length-set}
+use lib.Pow.{pow-mono}
 use lib.Seq.{getD-set-same, getD-set-other}
 use borrow.Author.Tests.{ne-eqb}
 use Rattle.literals.specs.Sets.{has, insert, insertAll, hasAll, minus, union, within, clash}
@@ -17,16 +18,26 @@ use Rattle.literals.proofs.Tests.{and-left, and-right, and-intro, not-true-fals
 use Rattle.literals.proofs.Members.{has-minus-power, has-insert-same, insert-keeps, has-empty}
 use Rattle.literals.proofs.Lists.{hasAll-within, hasAll-each}
 use Rattle.literals.proofs.Within.{within-each, within-empty, within-union-left, union-within, insert-within}
-use Rattle.program.specs.Program.{Rule, isDefeasible, bitOf, ruleAt, Π-mask, Π}
+use Rattle.program.specs.Program.{Rule, bitOf, ruleAt, Π-mask, Π}
 use Rattle.program.specs.Limits.{DefeasibleAt}
 use Rattle.program.proofs.Numbers.{defeasible-test, defeasible-found, bit-of-same}
 use Rattle.derivation.specs.Closure.{closure}
 use Rattle.derivation.proofs.Closures.{closure-closed}
 use Rattle.derivation.proofs.Choices.{Π-with-at, Π-mask-empty}
 use Rattle.argument.specs.Fresh.{maskClosure}
-use Rattle.argument.specs.Closures.{closureAt, Stands, Filled, applies}
+use Rattle.argument.specs.Closures.{closureAt, Stands, Filled, applies, Room}
 use Rattle.argument.proofs.MaskClosures.{minus-subset, mask-closure-mono, mask-contradictory-mono, mask-closure-idle, mask-closure-strict}
 use Rattle.argument.proofs.Tables.{RuleOf}
+
+-- what the readers of the table ask for
+pub mask-small : (bits m : ℕ) → bits ≤ 16 → m < 2 ^ bits → m < 65536
+mask-small bits m few inside = omega (arith, pow-mono {i = bits} {j = 16} few)
+
+pub room-entry : (t : List ℕ) (bits m : ℕ) → Room bits t → m < 2 ^ bits → (m < 65536) × (2 * m + 1 < length t)
+room-entry t bits m room inside = (mask-small bits m (room .few) inside, omega (arith, room .long))
+
+pub room-kept : (t u : List ℕ) (bits n : ℕ) → n ≡ bits → length u ≡ length t → Room bits t → Room n u
+room-kept t u bits n e l room = rw e (record { few = room .few; long = omega (arith, room .long) })
 
 pub stands-equal : (rules : List Rule) (m x : ℕ) → x ≡ maskClosure rules m → Stands rules m x
 stands-equal rules m x e = record { clashing = ap clash e; exact = λ c. e }

@@ -3,10 +3,9 @@
 use mathlib.Core.Path.{_≡_, refl, sym, ap, ap₂, _∙_, subst}
 use mathlib.Core.Bool.{true, false}
 use mathlib.Core.List.{List}
-use Prim.Native.Nat.{ℕ, _+_, _*_, _^_, _<_, _≤_}
+use Prim.Native.Nat.{ℕ, _+_, _*_, _^_, _<_}
 use native.Mathlib.Omega.{arith}
 use lib.ListN.{length, set, length-set}
-use lib.Pow.{pow-mono}
 use Rattle.literals.specs.Sets.{has, insert, insertAll, minus, union, within}
 use Rattle.literals.specs.Words.{joined}
 use Rattle.literals.proofs.Members.{has-bound, minus-less}
@@ -18,9 +17,6 @@ use Rattle.derivation.specs.Closure.{closure}
 use Rattle.argument.specs.Closures.{closureAt, Stands, Filled, applies, Numbered}
 use Rattle.argument.proofs.Tables.{RuleOf, table-rule}
 use Rattle.argument.proofs.Entries.{stands-copy, Begun, begun-none, begun-more, begun-all, filled-more}
-
-pub mask-small : (bits m : ℕ) → bits ≤ 16 → m < 2 ^ bits → m < 65536
-mask-small bits m few inside = omega (arith, pow-mono {i = bits} {j = 16} few)
 
 -- what x is to be, of every program that the table holds
 abbrev pub Derived : List ℕ → List ℕ → ℕ → ℕ → Type 0

@@ -8,3 +8,6 @@ mod Fills
 pub mod Unions
 pub mod FreshSets
 pub mod SubArguments
+pub mod Picks
+pub mod Readings
+mod Listings

@@ -1,15 +1,13 @@
 -- The rule table of a program within the limits: its bits and their rules. Assumes nothing.
 use mathlib.Core.Path.{_≡_, refl, sym, ap, _∙_, subst}
-use mathlib.Core.Bool.{true}
-use mathlib.Core.List.{List, List·Memᴰ}
-use Prim.Native.Nat.{ℕ, _+_, _*_, _<_, _≤_}
+use mathlib.Core.List.{List}
+use Prim.Native.Nat.{ℕ, _<_}
 use native.Mathlib.Omega.{arith}
-use lib.ListN.{length}
-use Rattle.program.specs.Program.{Rule, Program, defeasibles, bitOf, ruleAt}
+use Rattle.program.specs.Program.{Rule, Program, bitOf}
 use Rattle.program.specs.Limits.{DefeasibleAt, Limits}
-use Rattle.program.specs.Table.{ruleOfBit, bitCount, ruleCount, headAt, Holds, Shaped}
+use Rattle.program.specs.Table.{ruleOfBit, bitCount, Holds}
 use Rattle.program.proofs.Numbers.{defeasible-test, bit-of-found}
-use Rattle.derivation.proofs.Choices.{Π-with-rules, Π-with-at}
+use Rattle.derivation.proofs.Tables.{limits-shaped}
 use Rattle.argument.specs.Closures.{Numbered}
 
 -- the rule with bit b
@@ -27,22 +25,10 @@ module _ (p : Program) (t : List ℕ) (holds : Holds p t) where
           (record { is = d; bit-is = e })
 
   module _ (limits : Limits p) where
-    rule-in : (i : ℕ) → i < length (p .rules) → List·Memᴰ (ruleAt (p .rules) i) (p .rules)
-    rule-in i l = Π-with-rules (p .rules) (λ _. true) (ruleAt (p .rules) i) (Π-with-at (p .rules) (λ _. true) i l refl)
-
-    pub limits-shaped : Shaped t
-    limits-shaped =
-        record {
-          few = omega (arith, holds .rules-are, limits .rules-limit);
-          literals = λ i l.
-              let inside : i < length (p .rules) = omega (arith, holds .rules-are) in
-              omega (arith, holds .row i inside .head-is, limits .heads-below (ruleAt (p .rules) i) (rule-in i inside), limits .atoms-limit);
-        }
-
     pub limits-numbered : Numbered t
     limits-numbered =
         record {
-          shaped = limits-shaped;
+          shaped = limits-shaped p t holds limits;
           few = omega (arith, holds .bits-are, limits .defeasibles-limit);
           rule = λ b l. omega (arith, table-rule b l .is .there, holds .rules-are);
         }

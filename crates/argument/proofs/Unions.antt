@@ -1,6 +1,6 @@
 -- Unions over the members of a set. Assumes nothing.
-use mathlib.Core.Path.{_≡_, refl, sym, ap, ap₂, _∙_, subst}
-use mathlib.Core.Bool.{Bool, true, false, not, _&&_, _||_, false≢true}
+use mathlib.Core.Path.{_≡_, refl, sym, ap, ap₂, _∙_}
+use mathlib.Core.Bool.{Bool, true, false, not, _||_, false≢true}
 use mathlib.Core.Logic.{_⊎_, inl, inr, ⊎-elim}
 use Prim.Native.Nat.{ℕ, zero, suc, _^_, _<_}
 use native.Mathlib.Nat.{eq-or-lt-of-le}
@@ -10,9 +10,19 @@ use lib.Dec.{eqb}
 use borrow.Author.Tests.{ne-eqb}
 use Rattle.literals.specs.Sets.{has, choose, minus, union}
 use Rattle.literals.proofs.Tests.{or-left, or-right, or-cases, and-left, and-intro}
-use Rattle.literals.proofs.Members.{has-empty, has-union, has-minus-power}
+use Rattle.literals.proofs.Members.{has-empty, has-ext, has-union, has-minus-power}
 use Rattle.literals.proofs.Within.{each-within, within-antisym}
 use Rattle.argument.specs.Fresh.{unionOver}
+
+pub union-assoc : (a b c : ℕ) → union (union a b) c ≡ union a (union b c)
+union-assoc a b c =
+    has-ext (union (union a b) c) (union a (union b c)) (λ k.
+    has-union (union a b) c k ∙ ap (λ (t : Bool). t || has c k) (has-union a b k) ∙ assoc (has a k) (has b k) (has c k)
+    ∙ sym (has-union a (union b c) k ∙ ap (λ (t : Bool). has a k || t) (has-union b c k)))
+  where
+    assoc : (x y z : Bool) → ((x || y) || z) ≡ (x || (y || z))
+    assoc true y z = refl
+    assoc false y z = refl
 
 module _ (f : ℕ → ℕ) (s : ℕ) where
   -- a member b of s below n whose set has h

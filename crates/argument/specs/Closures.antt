@@ -4,12 +4,11 @@ use mathlib.Core.Bool.{Bool, false, not, _&&_}
 use mathlib.Core.List.{List}
 use Prim.Native.Nat.{ℕ, _+_, _*_, _^_, _<_, _≤_}
 use lib.ListN.{length, getD}
-use Rattle.literals.specs.Sets.{has, within, clash}
+use Rattle.literals.specs.Sets.{within, clash}
 use Rattle.literals.specs.Words.{joined}
 use Rattle.program.specs.Program.{Rule}
 use Rattle.program.specs.Table.{ruleCount, bitCount, ruleOfBit, Shaped}
-use Rattle.argument.specs.Fresh.{maskClosure, freshBy}
-use Rattle.argument.specs.List.{listBy}
+use Rattle.argument.specs.Fresh.{maskClosure}
 
 -- the entry of mask m
 abbrev pub closureAt : List ℕ → ℕ → ℕ
@@ -38,11 +37,3 @@ pub record Numbered (t : List ℕ) : Type 0 where
 pub record Room (bits : ℕ) (t : List ℕ) : Type 0 where
   pub few : bits ≤ 16
   pub long : 2 * 2 ^ bits ≤ length t
-
--- the literals of the arguments with mask m, one of so many rules, read off the table
-abbrev pub freshIn : List ℕ → ℕ → ℕ → ℕ
-freshIn t bits m = freshBy (closureAt t) bits m
-
--- the argument list, read off the table
-unfoldable pub listIn : List ℕ → ℕ → List ℕ
-listIn t bits = listBy (λ m. has (freshIn t bits m)) 0 (2 ^ bits)

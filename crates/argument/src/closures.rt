@@ -37,7 +37,8 @@ pub fn contradictory(closures: &[u64], mask: u64) -> bool
 pub fn fill(table: &RuleTable, closures: &mut [u64])
     requires { ⌜ Numbered (now table) ⌝ }
     requires { ⌜ Room (bitCount (now table)) (now closures) ⌝ }
-    ensures { λ _. ⌜ ((p : Program) → Limits p → Holds p (now (table .entry)) → Filled (p .rules) (2 ^ bitCount (now (table .entry))) (now (closures .exit))) ⌝ }
+    ensures { λ _. ⌜ ((p : Program) → Limits p → Holds p (now (table .entry))
+        → Filled (p .rules) (2 ^ bitCount (now (table .entry))) (now (closures .exit))) ⌝ }
 {
     let end = mask_count(program::bit_count(table));
     let mut mask: u64 = 0;
@@ -62,7 +63,8 @@ pub fn mask_count(bits: u64) -> u64
 fn derive(table: &RuleTable, closures: &[u64], mask: u64) -> LiteralSet
     requires { ⌜ Numbered (now table) ⌝ }
     requires { ⌜ (mask < 2 ^ bitCount (now table)) × (2 * mask ≤ length (now closures)) ⌝ }
-    ensures { λ r. ⌜ ((p : Program) → Limits p → Holds p (now (table .entry)) → Filled (p .rules) mask (now (closures .entry)) → Stands (p .rules) mask (setOf r)) ⌝ }
+    ensures { λ r. ⌜ ((p : Program) → Limits p → Holds p (now (table .entry)) → Filled (p .rules) mask (now (closures .entry))
+        → Stands (p .rules) mask (setOf r)) ⌝ }
 {
     let mut start = LiteralSet::empty();
     let mut left = mask;
@@ -90,7 +92,8 @@ fn applies(table: &RuleTable, rule: u64, derived: LiteralSet) -> bool
 // Writes the entry of a mask.
 fn store(closures: &mut [u64], mask: u64, derived: LiteralSet)
     requires { ⌜ (mask < 65536) × (2 * mask + 1 < length (now closures)) ⌝ }
-    ensures { λ _. ⌜ now (closures .exit) ≡ set (set (now (closures .entry)) (2 * mask) (derived .lo)) (2 * mask + 1) (derived .hi) ⌝ }
+    ensures { λ _. ⌜ now (closures .exit)
+        ≡ set (set (now (closures .entry)) (2 * mask) (derived .lo)) (2 * mask + 1) (derived .hi) ⌝ }
 {
     let at = (2 * mask) as usize;
     closures[at] = derived.lo;

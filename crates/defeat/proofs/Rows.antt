@@ -10,7 +10,7 @@ use lib.Seq.{getD-set-same, getD-set-other}
 use borrow.Author.Count.{below-more}
 use Rattle.literals.specs.Sets.{has, insert, clash}
 use Rattle.literals.specs.Words.{joined}
-use Rattle.literals.proofs.Tests.{same-test, and-intro, and-left, and-right}
+use Rattle.literals.proofs.Tests.{same-test, and-left}
 use Rattle.literals.proofs.Members.{has-empty, has-bound, has-insert-same, insert-cases, insert-keeps}
 use Rattle.literals.proofs.Within.{within-each, within-trans, within-insert, insert-within}
 use Rattle.program.specs.Program.{Rule, Program, Π-mask, Π}

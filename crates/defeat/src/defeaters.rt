@@ -1,7 +1,7 @@
 // The kind of one argument as a defeater of another, by the closure table and the exclusion table.
 ghost use mathlib.Core.Path.{_≡_};
 ghost use mathlib.Core.List.{List·Memᴰ};
-ghost use Prim.Native.Nat.{ℕ, _+_, _*_, _^_, _<_, _≤_};
+ghost use Prim.Native.Nat.{ℕ, _+_, _*_, _^_, _<_};
 ghost use lib.ListN.{length, take};
 ghost use Rattle.literals.specs.Words.{setOf};
 ghost use Rattle.program.specs.Program.{Program};
@@ -62,7 +62,7 @@ fn weigh(
     y: u64,
 ) -> u8
     requires { ⌜ Numbers (now arguments) count ⌝ }
-    requires { ⌜ x < 2 ^ 16 ⌝ }
+    requires { ⌜ (x < 2 ^ 16) × (y < 2 ^ 16) ⌝ }
     ensures { λ r. ⌜ ((p : Program) → Limits p → Holds p (now (table .entry)) → Mask p x
         → take count (now (arguments .entry)) ≡ argumentList (p .rules)
         → r ≡ kindAmong (attackedBy (setOf excluded) y) (λ z. preferredTest p x (maskOf z))

@@ -1,7 +1,7 @@
 // The exclusion table: for each literal of a set, those of the set that exclude it.
 ghost use mathlib.Core.Path.{_≡_};
 ghost use mathlib.Core.Bool.{_&&_};
-ghost use Prim.Native.Nat.{ℕ, _+_, _*_, _<_, _≤_};
+ghost use Prim.Native.Nat.{_+_, _*_, _<_, _≤_};
 ghost use lib.ListN.{length, take, set};
 ghost use Rattle.literals.specs.Sets.{has, insert, clash};
 ghost use Rattle.literals.specs.Words.{setOf};

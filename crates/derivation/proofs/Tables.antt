@@ -1,9 +1,9 @@
 -- The rule table against the rules that it holds. Assumes nothing.
 use mathlib.Core.Path.{_≡_, refl, sym, ap, _∙_, subst}
-use mathlib.Core.Bool.{not, _||_}
+use mathlib.Core.Bool.{true, not, _||_}
 use mathlib.Core.List.{List, [], _∷_, List·Memᴰ, List·Memᴰ·not-nil, List·Memᴰ·cases-cons}
 use mathlib.Core.Logic.{⊎-elim}
-use Prim.Native.Nat.{ℕ, suc, _^_, _<_}
+use Prim.Native.Nat.{ℕ, suc, _*_, _^_, _<_, _≤_}
 use native.Mathlib.Omega.{arith}
 use lib.ListN.{length}
 use borrow.Author.Tests.{eq-eqb}
@@ -13,8 +13,10 @@ use Rattle.literals.proofs.Bits.{bit-power-only}
 use Rattle.literals.proofs.Members.{has-power, has-bit}
 use Rattle.literals.proofs.Within.{within-each, each-within, within-empty}
 use Rattle.program.specs.Program.{Kind, strict, defeasible, Rule, Program, isDefeasible, ruleAt}
-use Rattle.program.specs.Table.{needOf, Holds, Shaped}
+use Rattle.program.specs.Limits.{Limits}
+use Rattle.program.specs.Table.{headAt, ruleCount, needOf, Holds, Shaped}
 use Rattle.derivation.specs.Derivation.{HeadsBelow}
+use Rattle.derivation.proofs.Choices.{Π-with-rules, Π-with-at}
 
 -- a rule is chosen exactly if the mask has the bits that it needs
 pub need-chosen : (k : Kind) (b mask : ℕ) → within (needOf k b) mask ≡ (not (isDefeasible k) || has mask b)
@@ -34,3 +36,13 @@ pub table-heads : (p : Program) (t : List ℕ) → Holds p t → Shaped t → He
 table-heads p t h s =
     each-rule (λ (r : Rule). r .head < 128) (p .rules) (λ i l.
     subst (λ (x : ℕ). x < 128) (h .row i l .head-is) (s .literals i (subst (λ (n : ℕ). i < n) (sym (h .rules-are)) l)))
+
+-- the table of a program within the limits: at most 96 rules, heads below 128
+pub limits-shaped : (p : Program) (t : List ℕ) → Holds p t → Limits p → Shaped t
+limits-shaped p t holds limits = record {
+  few = omega (arith, holds .rules-are, limits .rules-limit);
+  literals = λ i l.
+      let inside : i < length (p .rules) = omega (arith, holds .rules-are) in
+      let there = Π-with-rules (p .rules) (λ _. true) (ruleAt (p .rules) i) (Π-with-at (p .rules) (λ _. true) i inside refl) in
+      omega (arith, holds .row i inside .head-is, limits .heads-below (ruleAt (p .rules) i) there, limits .atoms-limit);
+}

@@ -14,13 +14,14 @@ use borrow.Author.Tests.{ltb-true, ltb-false, lt-ltb, leb-false, eqb-true, eqb-f
 use Rattle.literals.proofs.Tests.{and-intro, and-left, and-right}
 use Rattle.program.specs.Program.{Kind, strict, defeasible, Rule, Program, nextBit, defeasibles, defeasiblesFrom, bitOf, ruleAt}
 use Rattle.program.specs.Limits.{DefeasibleAt, PairOf, Limits}
+use Rattle.program.specs.Table.{Holds}
 use Rattle.program.proofs.Fillings.{bit-of-next}
 use Rattle.image.specs.declared.Verdict.{Verdict}
 use Rattle.image.specs.declared.Verdict.the-variants.{Accepted, Refused}
 use Rattle.image.specs.Layout.{byteAt, atomsOf, rulesOf, pairsOf, sizeOf, partOf, kindByte, headByte, bodyBytes, firstOf, secondOf}
 use Rattle.image.specs.Causes.{refuse, andThen, allBelow, ascending, badSize, badKind, badLiteral, badBody, badEmpty, badSeventeenth, badRepeat, badLength, badCounts, badDirectory, badPairs, badPair, notDefeasible, partVerdict, ruleVerdict, countKind, rulesVerdict, pairVerdict, pairsVerdict, verdict}
 use Rattle.image.specs.Reading.{ruleIn, rulesIn, pairsIn, programIn}
-use Rattle.image.specs.Steps.{Parts}
+use Rattle.image.specs.Steps.{Parts, Loaded}
 use Rattle.image.proofs.Bytes.{below-here, below-after}
 use Rattle.image.proofs.Directory.{neither-left, neither-right, directory-parts}
 use Rattle.image.proofs.EachRule.{rules-next, kind-counted, kind-defeasible, kind-strict}
@@ -248,3 +249,7 @@ accepted-fillable s n e is = subst (Fillable s) (sym is) (go (accepted-sound s e
       bit-room = λ j h k. rule-sound s sound j h .room k;
       bits-are = ap defeasibles (ap (λ (k : ℕ). take k (rulesIn s 0 (rulesOf s))) (sym (rules-length s 0 (rulesOf s))) ∙ take-length (rulesIn s 0 (rulesOf s)));
     }
+
+-- what reading an accepted image leaves in a table of 419 words
+pub loaded-holds : (s before t : List ℕ) → length before ≡ 419 → verdict s ≡ Accepted → Loaded (verdict s) (programIn s) before t → Holds (programIn s) t
+loaded-holds s before t long e l = subst (λ (v : Verdict). Loaded v (programIn s) before t) e l long

@@ -17,7 +17,9 @@ use Rattle.image.specs.declared.header.Header.{Header}
 use Rattle.image.specs.declared.header.Header.the-variants as header
 use Rattle.image.specs.Layout.{numberAt, atomsOf, rulesOf, pairsOf, offsetOf, sizeOf}
 use Rattle.image.specs.Causes.{refuse, andThen, badLength, badCounts, partsFollow, badDirectory}
-use Rattle.image.specs.Steps.{cursorAt, headerBy, headerOf, Parts}
+use Rattle.image.specs.declared.cursor.Cursor.{Cursor}
+use Rattle.literals.specs.Sets.{choose}
+use Rattle.image.specs.Steps.{cursorAt, headerWith, headerBy, headerOf, Parts}
 
 -- ---- neither of two tests
 pub neither-left : (a b : Bool) → (a || b) ≡ false → a ≡ false
@@ -102,13 +104,15 @@ module _ (s : List ℕ) where
     pub length-fine : badLength s ≡ false
     length-fine = ap (λ (b : Bool). b || ltb 1836 (length s)) (le-ltb (length s) 12 long) ∙ le-ltb 1836 (length s) short
 
-    -- by the tests on the counts
-    pub header-counts : (two : Bool) → badCounts s ≡ two → headerBy (refuse two 2 0) s ≡ headerOf s
-    header-counts two e = sym (header-by false length-fine ∙ ap (λ (b : Bool). headerBy (refuse b 2 0) s) e)
-
-pub counts-by : (s : List ℕ) (a r p z : Bool) → ltb 64 (atomsOf s) ≡ a → ltb 96 (rulesOf s) ≡ r → ltb 240 (pairsOf s) ≡ p → eqb (numberAt s 6) 0 ≡ z → badCounts s ≡ (a || (r || (p || not z)))
-counts-by s a r p z ea er ep ez =
-    ap (λ (b : Bool). b || (ltb 96 (rulesOf s) || (ltb 240 (pairsOf s) || not (eqb (numberAt s 6) 0)))) ea
-    ∙ ap (λ (b : Bool). a || (b || (ltb 240 (pairsOf s) || not (eqb (numberAt s 6) 0)))) er
-    ∙ ap (λ (b : Bool). a || (r || (b || not (eqb (numberAt s 6) 0)))) ep
-    ∙ ap (λ (b : Bool). a || (r || (p || not b))) ez
+    -- by the counts that are read
+    pub header-fields : (atoms rules pairs zeros : ℕ) (next : Cursor) → atoms ≡ atomsOf s → rules ≡ rulesOf s → pairs ≡ pairsOf s → zeros ≡ numberAt s 6 → next .at ≡ 8 → headerWith atoms rules pairs zeros next ≡ headerOf s
+    header-fields atoms rules pairs zeros next ea er ep ez en =
+        rw (ea, er, ep, ez, en) (go (badCounts s) refl)
+      where
+        go : (b : Bool) → badCounts s ≡ b → headerWith (atomsOf s) (rulesOf s) (pairsOf s) (numberAt s 6) (cursorAt 8) ≡ headerOf s
+        go true e =
+            ap (λ (t : Bool). choose t (header.Refused 2 0) (header.Read (record { atoms = atomsOf s; rules = rulesOf s; pairs = pairsOf s }) (cursorAt 8))) e
+            ∙ sym (header-by false length-fine ∙ ap (λ (t : Bool). headerBy (refuse t 2 0) s) e)
+        go false e =
+            ap (λ (t : Bool). choose t (header.Refused 2 0) (header.Read (record { atoms = atomsOf s; rules = rulesOf s; pairs = pairsOf s }) (cursorAt 8))) e
+            ∙ sym (header-by false length-fine ∙ ap (λ (t : Bool). headerBy (refuse t 2 0) s) e)

@@ -1,10 +1,10 @@
 -- What each step of the reader hands back: what it read with the next cursor, or that it cannot. Assumes nothing.
-use mathlib.Core.Bool.{Bool, true, false}
+use mathlib.Core.Bool.{Bool, true, false, not, _||_}
 use mathlib.Core.List.{List}
 use mathlib.Core.Path.{_≡_}
 use Prim.Native.Nat.{ℕ, _+_, _*_, _^_, _<_, _≤_}
 use lib.ListN.{length}
-use lib.Dec.{leb}
+use lib.Dec.{leb, ltb, eqb}
 use Rattle.literals.specs.Sets.{choose}
 use Rattle.program.specs.Program.{Rule, Program, bitOf}
 use Rattle.program.specs.Table.{needAt, Holds}
@@ -32,6 +32,12 @@ numberFrom s at = choose (leb (at + 2) (length s)) (number.Read (numberAt s at) 
 unfoldable pub entryFrom : List ℕ → ℕ → Entry
 entryFrom s at =
     choose (leb (at + 4) (length s)) (entry.Read (numberAt s at) (numberAt s (at + 2)) (cursorAt (at + 4))) entry.Past
+
+-- counts that are read, with the cursor after them, or cause 2
+abbrev pub headerWith : (atoms rules pairs zero : ℕ) → Cursor → Header
+headerWith atoms rules pairs zeros next =
+    choose (ltb 64 atoms || (ltb 96 rules || (ltb 240 pairs || not (eqb zeros 0)))) (header.Refused 2 0)
+    (header.Read (record { atoms = atoms; rules = rules; pairs = pairs }) next)
 
 -- the counts and the cursor after them, or the first of causes 1 and 2 that applies
 abbrev pub headerBy : Verdict → List ℕ → Header

@@ -5,7 +5,7 @@ ghost use Prim.Native.Nat.{_+_, _*_, _≤_, _<_};
 ghost use lib.ListN.{length};
 ghost use Rattle.image.specs.Layout.{rulesOf};
 ghost use Rattle.image.specs.Causes.{partsFollow, badDirectory};
-ghost use Rattle.image.specs.Steps.{headerOf};
+ghost use Rattle.image.specs.Steps.{headerWith, headerOf};
 use crate::cursor::Cursor;
 use crate::cursor::Entry;
 use crate::cursor::Number;
@@ -74,6 +74,13 @@ pub fn read(image: &[u8]) -> Header
             place: 0,
         };
     };
+    within_limits(atoms, rules, pairs, zero, next)
+}
+
+// The header where each count is within its limit, or cause 2.
+fn within_limits(atoms: u16, rules: u16, pairs: u16, zero: u16, next: Cursor) -> Header
+    ensures { λ r. ⌜ r ≡ headerWith atoms rules pairs zero next ⌝ }
+{
     if 64 < atoms {
         return Header::Refused {
             number: 2,

@@ -6,3 +6,4 @@ pub mod Refusals
 pub mod Calls
 pub mod Claims
 pub mod Fittings
+pub mod Listings

@@ -3,7 +3,7 @@ ghost use mathlib.Core.Path.{_≡_};
 ghost use lib.ListN.{length};
 ghost use Rattle.program.specs.Table.{Holds};
 ghost use Rattle.image.specs.Reading.{programIn};
-ghost use Rattle.warrant.specs.Calls.{checkImage};
+ghost use Rattle.warrant.specs.Calls.{checkImage, listed, listTable};
 use image::Verdict;
 use literals::LiteralSet;
 use program::RuleTable;
@@ -55,4 +55,21 @@ fn load(image: &[u8], table: &mut RuleTable) -> Verdict
         };
     }
     Verdict::Accepted
+}
+
+// The argument list of an image's program in the lent table: their number, or the first of causes 1 to 14 and 23.
+pub fn list(image: &[u8], arguments: &mut [u32]) -> Listed
+    ensures { λ r. ⌜ (r ≡ listed (now (image .entry)) (length (now (arguments .entry)))) × (now (arguments .exit) ≡ listTable (now (image .entry)) (now (arguments .entry))) ⌝ }
+{
+    let mut table = [0u64; 419];
+    if let Verdict::Refused { number, place } = load(image, &mut table) {
+        return Listed::Refused { number, place };
+    }
+    match argument::sized::list(&table, arguments) {
+        argument::Listed::Count(count) => Listed::Count(count),
+        argument::Listed::Over => Listed::Refused {
+            number: 23,
+            place: 0,
+        },
+    }
 }

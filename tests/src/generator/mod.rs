@@ -4,6 +4,7 @@ pub mod accepted;
 pub mod damage;
 pub mod description;
 pub mod limits;
+pub mod listing;
 pub mod noise;
 pub mod random;
 pub mod scenario;
@@ -12,6 +13,7 @@ pub mod spoil;
 
 pub use accepted::accepted;
 pub use description::{Description, Parts, RuleText};
+pub use listing::{all_applicable, many_arguments, MANY_ARGUMENTS};
 pub use random::Random;
 pub use scenario::{all_scenarios, Arrangement, Scenario};
 

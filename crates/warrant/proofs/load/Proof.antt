@@ -9,13 +9,12 @@ use Rattle.program.specs.Program.{Rule, Program, Π, Π-mask}
 use Rattle.program.specs.Table.{Holds, Shaped}
 use Rattle.derivation.specs.Closure.{closure, contradictory}
 use Rattle.derivation.proofs.Choices.{Π-mask-empty}
-use Rattle.argument.proofs.Tables.{limits-shaped}
+use Rattle.derivation.proofs.Tables.{limits-shaped}
 use Rattle.image.specs.declared.Verdict.{Verdict}
 use Rattle.image.specs.declared.Verdict.the-variants.{Accepted, Refused}
 use Rattle.image.specs.Causes.{refuse, andThen, verdict}
 use Rattle.image.specs.Reading.{programIn}
-use Rattle.image.specs.Steps.{Loaded}
-use Rattle.image.proofs.Accepted.{accepted-limits}
+use Rattle.image.proofs.Accepted.{accepted-limits, loaded-holds}
 use Rattle.warrant.specs.Calls.{checkImage}
 use native.Mathlib.Omega.{arith}
 use borrow.Author.Needs.{needs}
@@ -32,10 +31,6 @@ module _ (s : List ℕ) where
   refused n k t e =
       let is = check-by (Refused n k) (contradictory (Π (programIn s .rules))) e refl in
       (sym is, λ a. absurd (let z : _≡_ {A = ℕ} 0 1 = cc in omega arith))
-
-  -- the table that was filled holds the program
-  held : (before t : List ℕ) → length before ≡ 419 → verdict s ≡ Accepted → Loaded (verdict s) (programIn s) before t → Holds (programIn s) t
-  held before t long e l = subst (λ (v : Verdict). Loaded v (programIn s) before t) e l long
 
   shaped : (t : List ℕ) → verdict s ≡ Accepted → Holds (programIn s) t → Shaped t
   shaped t e h = limits-shaped (programIn s) t h (accepted-limits s e)
@@ -72,7 +67,7 @@ close-requires : tie.Need-close-requires
 close-requires c κs =
     let s = c .before .before .before .before .before .before .before .args .image .now in
     let e = sym (c .before .before .before .before .read .ensures .0) ∙ c .before .before .enum-told .given .1 in
-    shaped s _ e (held s _ _ (c .before .before .before .before .before .before .before .pre) e (c .before .before .before .before .read .ensures .1))
+    shaped s _ e (loaded-holds s _ _ (c .before .before .before .before .before .before .before .pre) e (c .before .before .before .before .read .ensures .1))
 
 contradictory-requires : tie.Need-contradictory-requires
 contradictory-requires c κs = search needs
@@ -81,14 +76,14 @@ returns-2 : tie.Need-returns-2
 returns-2 c =
     let s = c .before .before .before .before .before .before .before .before .before .before .args .image .now in
     let e = sym (c .before .before .before .before .before .before .before .read .ensures .0) ∙ c .before .before .before .before .before .enum-told .given .1 in
-    let h = held s _ _ (c .before .before .before .before .before .before .before .before .before .before .pre) e (c .before .before .before .before .before .before .before .read .ensures .1) in
+    let h = loaded-holds s _ _ (c .before .before .before .before .before .before .before .before .before .before .pre) e (c .before .before .before .before .before .before .before .read .ensures .1) in
     clashing s _ e (tested s _ _ _ _ _ (c .before .before .close .ensures) (c .before .before .before .empty .ensures) h (c .before .contradictory .ensures) (c .if1 .taken))
 
 returns-3 : tie.Need-returns-3
 returns-3 c =
     let s = c .before .before .before .before .before .before .before .before .before .before .args .image .now in
     let e = sym (c .before .before .before .before .before .before .before .read .ensures .0) ∙ c .before .before .before .before .before .enum-told .given .1 in
-    let h = held s _ _ (c .before .before .before .before .before .before .before .before .before .before .pre) e (c .before .before .before .before .before .before .before .read .ensures .1) in
+    let h = loaded-holds s _ _ (c .before .before .before .before .before .before .before .before .before .before .pre) e (c .before .before .before .before .before .before .before .read .ensures .1) in
     accepted s _ e (tested s _ _ _ _ _ (c .before .before .close .ensures) (c .before .before .before .empty .ensures) h (c .before .contradictory .ensures) (c .if1 .left)) h
 
 pub load-spec : {M : Type 1} → statement M

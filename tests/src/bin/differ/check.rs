@@ -17,7 +17,7 @@ fn compare_one(case: &Case, report: &mut Report) {
     let reference = reference_opinion(&case.image);
     let probe = probe::check(&case.image);
     let construction_agrees = case.expected.is_none_or(|expected| expected == reference);
-    let probe_agrees = probe.is_none_or(|given| given == as_far_as_the_probe(reference));
+    let probe_agrees = probe.is_none_or(|given| given == reference);
     if construction_agrees && probe_agrees {
         report.agreed(reference);
     } else {
@@ -41,13 +41,5 @@ fn reference_opinion(image: &[u8]) -> Verdict {
     match reference::check(image) {
         Ok(()) => (0, 0),
         Err(refusal) => (refusal.cause.number(), refusal.place as u32),
-    }
-}
-
-fn as_far_as_the_probe(verdict: Verdict) -> Verdict {
-    if verdict.0 == 14 && !probe::CHECKS_CONTRADICTION {
-        (0, 0)
-    } else {
-        verdict
     }
 }

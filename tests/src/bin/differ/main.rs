@@ -2,9 +2,12 @@
 //!
 //! `differ [seed] [damaged images] [accepted images]`, built with FOQTIREL_LIB_DIR naming the
 //! directory of `libprobe.a`. Without the library, `differ --without-probe ...` compares the
-//! two remaining opinions.
+//! two remaining opinions of the check; of a list, the reference's is then the only one.
 
 mod check;
+mod lent;
+mod list;
+mod listreport;
 mod probe;
 mod report;
 
@@ -50,7 +53,13 @@ fn main() -> ExitCode {
 
     let mut report = report::Report::default();
     check::compare(seed, damaged, accepted, &mut report);
-    if report.finish() {
+    let mut sound = report.finish();
+    if probe::LINKED {
+        let mut report = listreport::ListReport::default();
+        list::compare(seed, &mut report);
+        sound &= report.finish();
+    }
+    if sound {
         ExitCode::SUCCESS
     } else {
         ExitCode::FAILURE

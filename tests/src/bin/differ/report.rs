@@ -5,10 +5,19 @@ use std::collections::BTreeMap;
 use foqtirel_tests::generator::Verdict;
 
 const PROGRESS_EVERY: usize = 5_000;
-/// Each of the causes 1 to 13 must be seen so often.
+/// Each of the causes 1 to 14 must be seen so often.
 const LEAST_PER_CAUSE: usize = 100;
 /// Differences beyond these are counted but not printed.
 const MOST_PRINTED: usize = 20;
+
+pub fn print_difference(image: &[u8], opinions: &[(&str, String)]) {
+    let hexadecimal: Vec<String> = image.iter().map(|byte| format!("{byte:02X}")).collect();
+    println!("DIFFERENCE in an image of {} bytes", image.len());
+    for (who, what) in opinions {
+        println!("  {who}: {what}");
+    }
+    println!("  image: {}", hexadecimal.join(" "));
+}
 
 #[derive(Default)]
 pub struct Report {
@@ -26,12 +35,7 @@ impl Report {
     pub fn differed(&mut self, image: &[u8], opinions: &[(&str, String)]) {
         self.differences += 1;
         if self.differences <= MOST_PRINTED {
-            let hexadecimal: Vec<String> = image.iter().map(|byte| format!("{byte:02X}")).collect();
-            println!("DIFFERENCE in an image of {} bytes", image.len());
-            for (who, what) in opinions {
-                println!("  {who}: {what}");
-            }
-            println!("  image: {}", hexadecimal.join(" "));
+            print_difference(image, opinions);
         }
         self.count_one();
     }
@@ -50,7 +54,7 @@ impl Report {
         println!("accepted: {} images agreed", seen(0));
         for cause in 1..=14 {
             println!("cause {cause}: {} images agreed", seen(cause));
-            if cause <= 13 && seen(cause) < LEAST_PER_CAUSE {
+            if seen(cause) < LEAST_PER_CAUSE {
                 println!("cause {cause} was seen fewer than {LEAST_PER_CAUSE} times");
                 sound = false;
             }

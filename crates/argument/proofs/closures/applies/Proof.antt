@@ -20,7 +20,8 @@ within-requires c κs = search needs
 returns : tie.Need-returns
 returns c =
     ap₂ (λ (x y : Bool). not x && y) (c .before .before .contradictory .ensures)
-    (c .within .ensures ∙ ap (λ (x : ℕ). within x (setOf (c .before .before .before .args .derived))) (c .before .body .ensures))
+    (c .within .ensures ∙ ap (λ (x : ℕ). within x (setOf (c .before .before .before .args .derived)))
+    (c .before .body .ensures))
 
 pub applies-spec : {M : Type 1} → statement M
 applies-spec = tie.close (tie.spec contradictory-requires body-requires within-requires returns)

@@ -1,6 +1,6 @@
 -- `closures::fill` meets its contract: the masks that are passed have their entries. Assumes nothing.
-use mathlib.Core.Path.{_≡_, ap, _∙_}
-use Prim.Native.Nat.{_≤_, _<_, _-_, _+_, _*_, _^_}
+use mathlib.Core.Path.{ap}
+use Prim.Native.Nat.{ℕ, _≤_, _<_, _-_, _+_, _*_, _^_}
 use lib.ListN.{length}
 use Rattle.literals.specs.Words.{setOf}
 use Rattle.program.specs.Table.{bitCount}
@@ -16,6 +16,23 @@ Inv-loop table closures₀ end mask₀ closures mask = (mask ≤ end) × Filling
 abbrev μ-loop : tie.MeasureT-loop
 μ-loop table closures₀ end mask₀ closures mask = end - mask
 
+module _ (c : tie.In-loop Inv-loop μ-loop) where
+  abbrev start : tie.Start Inv-loop μ-loop
+  start = c .before .before .before .before .before
+
+  -- the mask is one of the program's, and the table has room for it
+  inside : c .before .loop .mask < 2 ^ bitCount (start .args .table .now)
+  inside =
+      let count = c .before .before .mask-count .ensures .0 in
+      let bits = ap (λ (n : ℕ). 2 ^ n) (c .before .before .before .bit-count .ensures) in
+      omega (arith, count, bits, c .loop-test .taken)
+
+  room : 2 * c .before .loop .mask + 1 < length (start .args .closures .now)
+  room = omega (arith, inside, start .pre .1 .long)
+
+  small : c .before .loop .mask < 65536
+  small = omega (arith, c .before .before .mask-count .ensures .1, c .loop-test .taken)
+
 bit-count-requires : tie.Need-bit-count-requires Inv-loop μ-loop
 bit-count-requires c κs = search needs
 
@@ -27,34 +44,40 @@ loop-holds c = (omega arith, filling-none _ _)
 
 derive-requires : tie.Need-derive-requires Inv-loop μ-loop
 derive-requires c κs =
-    let end = c .before .before .before .mask-count .ensures .0 ∙ ap (λ n. 2 ^ n) (c .before .before .before .before .bit-count .ensures) in
-    (c .before .before .before .before .before .before .pre .0, (omega (arith, end), omega (arith, end, c .before .before .loop .inv .1 .kept, c .before .before .before .before .before .before .pre .1 .long)))
+    let l = c .before in (
+      c .before .before .before .before .before .before .pre .0,
+      (inside l, omega (arith, room l, c .before .before .loop .inv .1 .kept)),
+    )
 
 store-requires : tie.Need-store-requires Inv-loop μ-loop
 store-requires c κs =
-    let end = c .before .before .before .before .before .mask-count .ensures .0 ∙ ap (λ n. 2 ^ n) (c .before .before .before .before .before .before .bit-count .ensures) in
-    (omega (arith, c .before .before .before .before .before .mask-count .ensures .1), omega (arith, end, c .before .before .before .before .loop .inv .1 .kept, c .before .before .before .before .before .before .before .before .pre .1 .long))
+    let l = c .before .before .before in
+    (small l, omega (arith, room l, c .before .before .before .before .loop .inv .1 .kept))
 
 add-mask : tie.Need-add-mask Inv-loop μ-loop
-add-mask c = omega (arith, c .before .before .before .before .before .before .before .before .mask-count .ensures .1)
+add-mask c = omega (arith, small (c .before .before .before .before .before .before))
 
 loop-less : tie.Need-loop-less Inv-loop μ-loop
 loop-less c = omega arith
 
 loop-again : tie.Need-loop-again Inv-loop μ-loop
 unfolding setOf
-loop-again c =
-    let end = c .before .before .before .before .before .before .before .before .mask-count .ensures .0 ∙ ap (λ n. 2 ^ n) (c .before .before .before .before .before .before .before .before .before .bit-count .ensures) in
-    let room : 2 * c .before .before .before .before .before .before .before .loop .mask + 1 < length (c .before .before .before .before .before .before .before .before .before .before .before .args .closures .now) = omega (arith, end, c .before .before .before .before .before .before .before .before .before .before .before .pre .1 .long) in
-    (omega arith, filling-more _ _ _ _ (c .before .before .before .before .before .before .before .loop .mask) _ _ room (c .before .before .before .before .before .before .before .loop .inv .1) (c .before .before .before .before .derive .ensures) (c .before .before .store .ensures))
+loop-again c = (
+  omega arith,
+  filling-more _ _ _ _ (c .before .before .before .before .before .before .before .loop .mask) _ _
+      (room (c .before .before .before .before .before .before))
+      (c .before .before .before .before .before .before .before .loop .inv .1)
+      (c .before .before .before .before .derive .ensures) (c .before .before .store .ensures),
+)
 
 same-length : tie.Need-same-length Inv-loop μ-loop
 same-length c = c .before .loop .inv .1 .kept
 
 returns : tie.Need-returns Inv-loop μ-loop
-returns c p limits holds m inside =
-    let end = c .before .before .mask-count .ensures .0 ∙ ap (λ n. 2 ^ n) (c .before .before .before .bit-count .ensures) in
-    c .before .loop .inv .1 .filled p limits holds m (omega (arith, end))
+returns c p limits holds m l =
+    let count = c .before .before .mask-count .ensures .0 in
+    let bits = ap (λ (n : ℕ). 2 ^ n) (c .before .before .before .bit-count .ensures) in
+    c .before .loop .inv .1 .filled p limits holds m (omega (arith, count, bits))
 
 pub fill-spec : {M : Type 1} → statement M
 fill-spec =

@@ -1,6 +1,6 @@
 -- `defeaters::kind` meets its contract: without a rule x attacks nothing, the early test says that nothing is attacked,
 -- and otherwise the search by x's row is the defined one. Assumes nothing.
-use mathlib.Core.Path.{_≡_, sym, ap, ap₂, _∙_}
+use mathlib.Core.Path.{sym, ap, ap₂, _∙_}
 use borrow.Author.Tests.{not-true}
 use borrow.Author.Needs.{needs}
 use Rattle.literals.specs.Sets.{meets}

@@ -165,8 +165,10 @@ loop-again c =
 preferred-requires : tie.Need-preferred-requires Inv-loop μ-loop
 preferred-requires c κs =
     let t = c .before .before .before .before .before in
+    let masks = t .before .before .before .pre .1 in
     let small = t .before .before .before .pre .0 .small (t .before .loop .i) (t .loop-test .taken) in
-    (t .before .before .before .pre .1, omega (arith, c .before .before .before .mask-of .ensures))
+    let mask = c .before .before .before .mask-of .ensures in
+    (omega arith, omega arith)
 
 returns-2 : tie.Need-returns-2 Inv-loop μ-loop
 returns-2 c =
@@ -174,14 +176,16 @@ returns-2 c =
     let l = t .before .loop in
     let attacked = sym (c .before .before .before .attacked .ensures) ∙ not-false _ (c .before .before .if2 .left) in
     turn-proper _ (t .before .before .before .args .arguments .now) _ _ _ _ (t .before .before .before .pre .0 .enough)
-    (l .found) (l .i) (l .inv) (t .loop-test .taken) _ (c .before .before .before .before .before .mask-of .ensures) attacked _
-    (c .before .preferred .ensures) (c .if3 .taken)
+    (l .found) (l .i) (l .inv) (t .loop-test .taken) _ (c .before .before .before .before .before .mask-of .ensures)
+    attacked _ (c .before .preferred .ensures) (c .if3 .taken)
 
 preferred-requires-2 : tie.Need-preferred-requires-2 Inv-loop μ-loop
 preferred-requires-2 c κs =
     let t = c .before .before .before .before .before .before .before in
+    let masks = t .before .before .before .pre .1 in
     let small = t .before .before .before .pre .0 .small (t .before .loop .i) (t .loop-test .taken) in
-    (omega (arith, c .before .before .before .before .before .mask-of .ensures), t .before .before .before .pre .1)
+    let mask = c .before .before .before .before .before .mask-of .ensures in
+    (omega arith, omega arith)
 
 loop-less-2 : tie.Need-loop-less-2 Inv-loop μ-loop
 loop-less-2 c = search needs

@@ -1,6 +1,7 @@
 -- `exclusions::fill` meets its contract: the literals that are passed have their rows. Assumes nothing.
 use mathlib.Core.Path.{sym, _∙_}
 use Prim.Native.Nat.{_-_}
+use native.Mathlib.Omega.{arith}
 use borrow.Author.Tests.{not-true}
 use borrow.Author.Needs.{needs}
 use Rattle.literals.specs.Words.{setOf}
@@ -48,8 +49,8 @@ loop-again-2 : tie.Need-loop-again-2 Inv-loop μ-loop
 unfolding setOf
 loop-again-2 c =
     let l = c .before .before .before .before .before .before in
-    filling-more _ _ _ _ _ (l .loop .a) _ _ (c .before .before .before .before .before .loop-test .taken)
-    (c .before .before .row .ensures) (c .store .ensures) (l .loop .inv)
+    filling-more _ _ _ _ _ (l .loop .a) _ _ (omega arith) (c .before .before .row .ensures) (c .store .ensures)
+    (l .loop .inv)
 
 returns : tie.Need-returns Inv-loop μ-loop
 unfolding setOf

@@ -1,0 +1,230 @@
+-- The loops that read the arguments off the closure table, a lemma for each turn and for each way out, over plain numbers
+-- and lists. Assumes nothing.
+use mathlib.Core.Path.{_≡_, refl, sym, ap, ap₂, _∙_, subst}
+use mathlib.Core.Bool.{Bool, true, false}
+use mathlib.Core.List.{List, [], _∷_, _++_}
+use Prim.Native.Nat.{ℕ, _+_, _-_, _*_, _^_, _<_, _≤_}
+use native.Mathlib.Nat.{zero-add}
+use native.Mathlib.Numerals.{add-one}
+use native.Mathlib.Omega.{arith}
+use lib.Bits.{bitAnd, or-zero-l, or-zero-r}
+use lib.Count.{ones, ones-le}
+use lib.Dec.{leb}
+use lib.ListN.{length, drop, set, length-set, length-append}
+use lib.Seq.{sets, sets-eq}
+use borrow.Author.Tests.{eqb-true, le-leb, lt-leb}
+use Rattle.literals.specs.Sets.{has, choose, minus, union, within, clash}
+use Rattle.literals.proofs.Members.{has-bound, minus-less}
+use Rattle.literals.proofs.Within.{within-each, within-refl, within-trans, within-union-left, minus-within}
+use Rattle.argument.specs.declared.Listed.the-variants.{Count, Over}
+use Rattle.argument.specs.Fresh.{unionOver, derivedWithout}
+use Rattle.argument.specs.List.{listBy}
+use Rattle.argument.specs.Closures.{closureAt}
+use Rattle.argument.specs.Listing.{freshIn, listIn, membersFrom, Written, listed, withList}
+use Rattle.argument.proofs.Unions.{union-assoc, unionOver-empty, unionOver-first}
+use Rattle.argument.proofs.Picks.{members-length, listed-next, listed-end, sets-append}
+use Rattle.argument.proofs.Readings.{fresh-coherent}
+
+minus-all : (a b : ℕ) → within a b ≡ true → minus a b ≡ 0
+minus-all a b w = omega (arith, eqb-true (bitAnd a b) a w)
+
+-- the literals of the arguments with mask m
+module _ (t : List ℕ) (bits m : ℕ) (inside : m < 2 ^ bits) where
+  abbrev without : ℕ → ℕ
+  without b = closureAt t (minus m (2 ^ b))
+
+  -- u, with what is derived where one of the rules `left` is left out, is all that is derived without some rule
+  pub record Rest (left u : ℕ) : Type 0 where
+    pub part : within left m ≡ true
+    pub rest : union u (unionOver (λ b. closureAt t (minus m (2 ^ b))) left bits) ≡ derivedWithout (closureAt t) m bits
+
+  pub rest-all : (u : ℕ) → u ≡ 0 → Rest m u
+  rest-all u e =
+      record {
+        part = within-refl m;
+        rest = ap (λ (x : ℕ). union x (unionOver without m bits)) e ∙ or-zero-l (unionOver without m bits);
+      }
+
+  pub rest-less : (left u b : ℕ) → Rest left u → has left b ≡ true → minus m (2 ^ b) < m
+  rest-less left u b state h = minus-less m b (within-each left m (state .part) b h)
+
+  pub rest-next : (left u b n x v k : ℕ) → Rest left u → has left b ≡ true → n ≡ minus m (2 ^ b) → x ≡ closureAt t n
+      → v ≡ union u x → k ≡ minus left (2 ^ b) → Rest k v
+  rest-next left u b n x v k state h en ex ev ek =
+      rw (ek, ev ∙ ap (union u) (ex ∙ ap (closureAt t) en))
+      (record {
+        part = within-trans (minus left (2 ^ b)) left m (minus-within left (2 ^ b)) (state .part);
+        rest = union-assoc u (without b) (unionOver without (minus left (2 ^ b)) bits)
+            ∙ ap (union u)
+            (unionOver-first without left bits b (has-bound m bits b inside (within-each left m (state .part) b h)) h)
+            ∙ state .rest;
+      })
+
+  module _ (whole : ℕ) (read : whole ≡ closureAt t m) (coherent : clash whole ≡ false) where
+    all : freshIn t bits m ≡ minus whole (derivedWithout (closureAt t) m bits)
+    all =
+        fresh-coherent (closureAt t) bits m (ap clash (sym read) ∙ coherent)
+        ∙ ap (λ (x : ℕ). minus x (derivedWithout (closureAt t) m bits)) (sym read)
+
+    -- the rest cannot take away more
+    pub rest-found : (left u v : ℕ) → Rest left u → within whole u ≡ true → v ≡ 0 → v ≡ freshIn t bits m
+    rest-found left u v state w e = e ∙ sym (all ∙ minus-all whole (derivedWithout (closureAt t) m bits) found)
+      where
+        found : within whole (derivedWithout (closureAt t) m bits) ≡ true
+        found =
+            within-trans whole u (derivedWithout (closureAt t) m bits) w
+            (subst (λ (x : ℕ). within u x ≡ true) (state .rest) (within-union-left u (unionOver without left bits)))
+
+    pub rest-none : (left u v : ℕ) → Rest left u → left ≡ 0 → v ≡ minus whole u → v ≡ freshIn t bits m
+    rest-none left u v state z e = e ∙ sym (all ∙ ap (minus whole) (sym (state .rest) ∙ ends))
+      where
+        ends : union u (unionOver without left bits) ≡ u
+        ends =
+            ap (λ (x : ℕ). union u x) (ap (λ (x : ℕ). unionOver without x bits) z ∙ unionOver-empty without bits) ∙ or-zero-r u
+
+-- the list of the masks from m on
+module _ (t : List ℕ) (bits end : ℕ) where
+  abbrev pub listFrom : ℕ → List ℕ
+  listFrom m = listBy (λ k. has (freshIn t bits k)) m (end - m)
+
+  pub list-all : end ≡ 2 ^ bits → listFrom 0 ≡ listIn t bits
+  unfolding listIn
+  list-all e =
+      let whole : end - 0 ≡ 2 ^ bits = omega arith in
+      ap (listBy (λ k. has (freshIn t bits k)) 0) whole
+
+  pub list-next : (m s : ℕ) → m < end → s ≡ freshIn t bits m → listFrom m ≡ membersFrom (m * 128) 128 s ++ listFrom (m + 1)
+  list-next m s l e =
+      listed-next (λ k. has (freshIn t bits k)) m end l
+      ∙ ap (λ (x : ℕ). membersFrom (m * 128) 128 x ++ listFrom (m + 1)) (sym e)
+
+  pub list-none : (m : ℕ) → end ≤ m → listFrom m ≡ []
+  list-none m l = listed-end (λ k. has (freshIn t bits k)) m end l
+
+  -- with those of the masks from m on, as many are found as the list has
+  pub record Counted (m found : ℕ) : Type 0 where
+    pub bound : m ≤ end
+    pub few : found ≤ 128 * m
+    pub rest : found + length (listFrom m) ≡ length (listIn t bits)
+
+  pub counted-none : end ≡ 2 ^ bits → Counted 0 0
+  counted-none e =
+      record { bound = omega arith; few = omega arith; rest = zero-add (length (listFrom 0)) ∙ ap length (list-all e) }
+
+  pub counted-next : (m found s n : ℕ) → m < end → Counted m found → s < 2 ^ 128 → s ≡ freshIn t bits m → n ≡ ones s
+      → Counted (m + 1) (found + n)
+  counted-next m found s n l state small e q =
+      record {
+        bound = omega arith;
+        few = omega (arith, state .few, q, ones-le 128 s small);
+        rest =
+            omega (
+              arith,
+              state .rest,
+              q,
+              members-length 128 (m * 128) s small,
+              ap length (list-next m s l e),
+              length-append (membersFrom (m * 128) 128 s) (listFrom (m + 1)),
+            );
+      }
+
+  pub counted-all : (m found : ℕ) → end ≤ m → Counted m found → found ≡ length (listIn t bits)
+  counted-all m found l state = omega (arith, state .rest, ap length (list-none m l))
+
+-- a list that is being written from `at` on: `rest` is left for the places from `next` on
+pub record Writing (before after : List ℕ) (at next : ℕ) (whole rest : List ℕ) : Type 0 where
+  pub kept : length after ≡ length before
+  pub stores : sets after next rest ≡ sets before at whole
+  pub places : next + length rest ≡ at + length whole
+
+pub writing-all : (t : List ℕ) (at : ℕ) (l r : List ℕ) → r ≡ l → Writing t t at at l r
+writing-all t at l r e = record { kept = refl; stores = ap (sets t at) e; places = ap (λ (x : List ℕ). at + length x) e }
+
+module _ (before after : List ℕ) (at next : ℕ) (whole rest : List ℕ) (state : Writing before after at next whole rest) where
+  -- one number
+  pub writing-one : (x : ℕ) (l : List ℕ) → rest ≡ x ∷ l → Writing before (set after next x) at (next + 1) whole l
+  writing-one x l e =
+      record {
+        kept = simp length-set (state .kept);
+        stores = ap (λ (k : ℕ). sets (set after next x) k l) (add-one next) ∙ ap (sets after next) (sym e) ∙ state .stores;
+        places = omega (arith, state .places, ap length e);
+      }
+
+  module _ (l r : List ℕ) (e : rest ≡ l ++ r) where
+    pub writing-room : at + length whole ≤ length before → next + length l ≤ length after
+    writing-room h = omega (arith, state .kept, state .places, ap length e, length-append l r)
+
+    -- a part of the list
+    pub writing-part : (more : List ℕ) (n : ℕ) → length more ≡ length after → Written after more next n l
+        → Writing before more at n whole r
+    writing-part more n k w =
+        record {
+          kept = k ∙ state .kept;
+          stores = ap₂ (λ (x : List ℕ) (y : ℕ). sets x y r) (w .stored) (w .next-is) ∙ sym (sets-append l r after next)
+              ∙ ap (sets after next) (sym e) ∙ state .stores;
+          places = omega (arith, state .places, ap length e, length-append l r, w .next-is);
+        }
+
+  pub writing-none : rest ≡ [] → Written before after at next whole
+  writing-none e =
+      record {
+        stored = ap (sets after next) (sym e) ∙ state .stores;
+        next-is = omega (arith, state .places, ap length e);
+      }
+
+-- one list after another
+pub written-append : (a b c : List ℕ) (at next end : ℕ) (l k w : List ℕ) → w ≡ l ++ k → Written a b at next l → Written b c next end k
+    → Written a c at end w
+written-append a b c at next end l k w e x y =
+    record {
+      stored = y .stored ∙ ap₂ (λ (s : List ℕ) (n : ℕ). sets s n k) (x .stored) (x .next-is) ∙ sym (sets-append l k a at)
+          ∙ ap (sets a at) (sym e);
+      next-is = omega (arith, y .next-is, x .next-is, ap length e, length-append l k);
+    }
+
+-- the list is being written, and that of the masks from m on is left
+module _ (t : List ℕ) (bits end : ℕ) (before after : List ℕ) (at m : ℕ)
+    (state : Writing before after 0 at (listIn t bits) (listFrom t bits end m)) where
+  module _ (s : ℕ) (l : m < end) (e : s ≡ freshIn t bits m) where
+    pub list-room : length (listIn t bits) ≤ length before → at + length (membersFrom (m * 128) 128 s) ≤ length after
+    list-room h =
+        writing-room before after 0 at (listIn t bits) (listFrom t bits end m) state (membersFrom (m * 128) 128 s)
+        (listFrom t bits end (m + 1)) (list-next t bits end m s l e) (omega arith)
+
+    pub list-more : (more : List ℕ) (next : ℕ) → length more ≡ length after → Written after more at next (membersFrom (m * 128) 128 s)
+        → Writing before more 0 next (listIn t bits) (listFrom t bits end (m + 1))
+    list-more =
+        writing-part before after 0 at (listIn t bits) (listFrom t bits end m) state (membersFrom (m * 128) 128 s)
+        (listFrom t bits end (m + 1)) (list-next t bits end m s l e)
+
+  pub list-written : end ≤ m → after ≡ sets before 0 (listIn t bits)
+  list-written l =
+      writing-none before after 0 at (listIn t bits) (listFrom t bits end m) state (list-none t bits end m l) .stored
+
+-- the two ways out of `list`: l is the list, k the one that was read and n its length
+module _ (l k table : List ℕ) (n : ℕ) (read : k ≡ l) (counted : n ≡ length k) where
+  count : n ≡ length l
+  count = counted ∙ ap length read
+
+  module _ (short : length table < n) where
+    over : leb (length l) (length table) ≡ false
+    over = lt-leb (length l) (length table) (subst (λ (x : ℕ). length table < x) count short)
+
+    pub listed-over : Over ≡ listed l table
+    listed-over = ap (λ (b : Bool). choose b (Count (length l)) Over) (sym over)
+
+    pub kept-over : table ≡ withList l table
+    kept-over = ap (λ (b : Bool). choose b (l ++ drop (length l) table) table) (sym over)
+
+  module _ (long : n ≤ length table) where
+    fits : leb (length l) (length table) ≡ true
+    fits = le-leb (length l) (length table) (subst (λ (x : ℕ). x ≤ length table) count long)
+
+    pub listed-count : Count n ≡ listed l table
+    listed-count = ap Count count ∙ ap (λ (b : Bool). choose b (Count (length l)) Over) (sym fits)
+
+    pub written-list : (after : List ℕ) → after ≡ sets table 0 k → after ≡ withList l table
+    written-list after e =
+        e ∙ ap (sets table 0) read ∙ sets-eq l table 0 (omega (arith, count))
+        ∙ ap (λ (j : ℕ). l ++ drop j table) (zero-add (length l))
+        ∙ ap (λ (b : Bool). choose b (l ++ drop (length l) table) table) (sym fits)
