@@ -1,6 +1,4 @@
-// Argumentation lines, dialectical trees and marks. specs/ has the definitions, proofs/ the theorems that join the
-// published and the computed ones.
+// Argumentation lines, dialectical trees, marks. specs/ has the definitions, proofs/ the theorems about them.
 
-mod candidates;
-pub mod roots;
-mod turns;
+pub mod candidates;
+pub mod nodes;

@@ -7,21 +7,21 @@ use borrow.Fn.Kinds.{In}
 use borrow.Fn.PlainCycle.{Measures, is, falls, and}
 use lib.ListN.{length-set}
 use Rattle.literals.specs.Sets.{union}
 use Rattle.tree.specs.Tables.{columns}
 use Rattle.tree.proofs.Listings.{prepared-count}
 use Rattle.tree.proofs.Turn.{Long, Turn, turn-none, turn-enters, turn-start, entered-line, turn-over, turn-end, turn-line, turn-asked, turn-last, turn-ready, turn-full, turn-room, turn-step}
-use Rattle.tree.proofs.turns.objector.Reads as objector
-use Rattle.tree.proofs.turns.objector.Kinds as objector-kinds
-use Rattle.tree.proofs.turns.+objector+supporter.Lts-objector as objector-lts
-use Rattle.tree.proofs.turns.supporter.Reads as supporter
-use Rattle.tree.proofs.turns.supporter.Kinds as supporter-kinds
-use Rattle.tree.proofs.turns.+objector+supporter.Lts-supporter as supporter-lts
+use Rattle.forest.proofs.turns.objector.Reads as objector
+use Rattle.forest.proofs.turns.objector.Kinds as objector-kinds
+use Rattle.forest.proofs.turns.+objector+supporter.Lts-objector as objector-lts
+use Rattle.forest.proofs.turns.supporter.Reads as supporter
+use Rattle.forest.proofs.turns.supporter.Kinds as supporter-kinds
+use Rattle.forest.proofs.turns.+objector+supporter.Lts-supporter as supporter-lts
 use Rattle.tree.proofs.candidates.first_reply.Reads as first-reply-reads
-use Rattle.tree.proofs.turns.enter.Reads as enter-reads
+use Rattle.tree.proofs.nodes.enter.Reads as enter-reads
 use Rattle.defeat.proofs.numbers.mask_of.Reads as mask-of-reads
-use Rattle.tree.proofs.turns.settled.Reads as settled-reads
-use Rattle.tree.proofs.turns.+objector+supporter.{statement}
-use Rattle.tree.proofs.turns.+objector+supporter.Tie.{close}
+use Rattle.tree.proofs.nodes.settled.Reads as settled-reads
+use Rattle.forest.proofs.turns.+objector+supporter.{statement}
+use Rattle.forest.proofs.turns.+objector+supporter.Tie.{close}
 
 abbrev μ-objector : Measures 9 objector-kinds.ps ℕ
 μ-objector κs a = a .1 .1 .1 .1 .1 .1 .1 .1 .1 .1 .1 .1 .1 .0 - a .1 .1 .1 .1 .1 .1 .1 .1 .1 .1 .1 .1 .0

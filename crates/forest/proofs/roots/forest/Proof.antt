@@ -1,11 +1,11 @@
 -- The trees for the literal, then those for its complement.
 use mathlib.Core.Path.{_∙_}
 use Rattle.tree.specs.Steps.{testsIn}
 use Rattle.tree.proofs.Turn.{Long}
 use Rattle.tree.proofs.Trees.{forest-over, forest-end}
 use Rattle.tree.proofs.RootTurn.{roots-moved}
-use Rattle.tree.proofs.roots.forest.Statement.{statement}
-use Rattle.tree.proofs.roots.forest.Tie as tie
+use Rattle.forest.proofs.roots.forest.Statement.{statement}
+use Rattle.forest.proofs.roots.forest.Tie as tie
 
 trees-requires : tie.Need-trees-requires
 trees-requires c κs = c .before .before .before .before .before .before .before .before .before .before .before .before .pre .0

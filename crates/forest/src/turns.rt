@@ -3,41 +3,13 @@
 ghost use mathlib.Core.Path.{_≡_};
 ghost use Prim.Native.Nat.{_<_};
 ghost use lib.ListN.{getD};
 ghost use Rattle.tree.specs.Tables.{columns, Built};
-ghost use Rattle.tree.specs.Steps.{lineOf, treeEntries, settledBy, Prepared, testsIn, Ready, Enters, Entered};
-use crate::candidates::first_reply;
+ghost use Rattle.tree.specs.Steps.{lineOf, treeEntries, Prepared, testsIn, Ready};
 use defeat::numbers::mask_of;
 use program::RuleTable;
-
-// A node's mark after one reply more: a reply that is marked U (1) makes it D (2).
-fn settled(mark: u8, reply: u8) -> u8
-    ensures { λ r. ⌜ r ≡ settledBy mark reply ⌝ }
-{
-    if reply == 1 { 2 } else { mark }
-}
-
-// Puts argument x, number j of the list, on the line, and its node's entry but the mark into the tables.
-fn enter(
-    line: &mut [u32],
-    depth: usize,
-    x: u32,
-    j: usize,
-    parent: usize,
-    kind: u8,
-    at: usize,
-    indexes: &mut [u32],
-    parents: &mut [u32],
-    kinds: &mut [u8],
-)
-    requires { ⌜ Enters depth j parent at (now line) (now indexes) (now parents) (now kinds) ⌝ }
-    ensures { λ _. ⌜ Entered depth x j parent kind at (now (line .entry)) (now (indexes .entry)) (now (parents .entry))
-        (now (kinds .entry)) (now (line .exit)) (now (indexes .exit)) (now (parents .exit)) (now (kinds .exit)) ⌝ }
-{
-    line[depth] = x;
-    indexes[at] = j as u32;
-    parents[at] = parent as u32;
-    kinds[at] = kind;
-}
+use tree::candidates::first_reply;
+use tree::nodes::enter;
+use tree::nodes::settled;
 
 // Writes the tree of a supporter's argument, number j of the list, from node number `at` on. Returns the next free number,
 // or one past the limit. The line is that of the parent; `supports` and `objections` are the masks of each side on it.
@@ -80,7 +52,7 @@ pub fn supporter(
     let mut next = at + 1;
     let mut start = 0;
     loop {
-        let reply = first_reply(
+        let objection = first_reply(
             table,
             closures,
             exclusions,
@@ -92,7 +64,7 @@ pub fn supporter(
             kind,
             start,
         );
-        if count <= reply.index {
+        if count <= objection.index {
             marks[at] = mark;
             return next;
         }
@@ -106,9 +78,9 @@ pub fn supporter(
             depth + 1,
             own,
             objections,
-            reply.index,
+            objection.index,
             at,
-            reply.kind,
+            objection.kind,
             next,
             limit,
             indexes,
@@ -121,7 +93,7 @@ pub fn supporter(
         }
         mark = settled(mark, marks[next]);
         next = end;
-        start = reply.index + 1;
+        start = objection.index + 1;
     }
 }
 
@@ -165,7 +137,7 @@ pub fn objector(
     let mut next = at + 1;
     let mut start = 0;
     loop {
-        let reply = first_reply(
+        let support = first_reply(
             table,
             closures,
             exclusions,
@@ -177,7 +149,7 @@ pub fn objector(
             kind,
             start,
         );
-        if count <= reply.index {
+        if count <= support.index {
             marks[at] = mark;
             return next;
         }
@@ -191,9 +163,9 @@ pub fn objector(
             depth + 1,
             supports,
             own,
-            reply.index,
+            support.index,
             at,
-            reply.kind,
+            support.kind,
             next,
             limit,
             indexes,
@@ -206,6 +178,6 @@ pub fn objector(
         }
         mark = settled(mark, marks[next]);
         next = end;
-        start = reply.index + 1;
+        start = support.index + 1;
     }
 }

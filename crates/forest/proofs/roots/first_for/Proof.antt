@@ -7,8 +7,8 @@ use borrow.Author.Count.{below-more}
 use borrow.Author.Needs.{needs}
 use lib.ListN.{getD}
 use Rattle.argument.specs.Argument.{literalOf}
-use Rattle.tree.proofs.roots.first_for.Statement.{statement}
-use Rattle.tree.proofs.roots.first_for.Tie as tie
+use Rattle.forest.proofs.roots.first_for.Statement.{statement}
+use Rattle.forest.proofs.roots.first_for.Tie as tie
 
 abbrev Inv-loop : tie.InvT-loop
 Inv-loop arguments count literal start j₀ j =

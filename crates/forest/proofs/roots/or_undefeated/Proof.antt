@@ -2,8 +2,8 @@
 use mathlib.Core.Path.{sym, ap}
 use mathlib.Core.Bool.{Bool, _||_}
 use lib.Dec.{eqb}
-use Rattle.tree.proofs.roots.or_undefeated.Statement.{statement}
-use Rattle.tree.proofs.roots.or_undefeated.Tie as tie
+use Rattle.forest.proofs.roots.or_undefeated.Statement.{statement}
+use Rattle.forest.proofs.roots.or_undefeated.Tie as tie
 
 returns : tie.Need-returns
 returns c = sym (ap (λ (b : Bool). b || eqb (c .before .args .mark) 1) (c .if1 .taken))

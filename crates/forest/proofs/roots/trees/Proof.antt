@@ -2,13 +2,13 @@
 use mathlib.Core.Path.{_∙_}
 use Prim.Native.Nat.{_-_}
 use native.Mathlib.Omega.{arith}
 use Rattle.tree.specs.Tables.{columns}
 use Rattle.tree.proofs.Listings.{prepared-count}
 use Rattle.tree.proofs.Turn.{Long}
 use Rattle.tree.proofs.RootTurn.{RootTurn, root-turn-start, root-turn-end, root-ready, root-turn-over, root-turn-room, root-turn-step}
 use borrow.Author.Needs.{needs}
-use Rattle.tree.proofs.roots.trees.Statement.{statement}
-use Rattle.tree.proofs.roots.trees.Tie as tie
+use Rattle.forest.proofs.roots.trees.Statement.{statement}
+use Rattle.forest.proofs.roots.trees.Tie as tie
 
 abbrev Inv-loop : tie.InvT-loop
 Inv-loop table closures exclusions arguments count literal line₀ at limit indexes₀ parents₀ kinds₀ marks₀ undefeated₀ next₀ start₀ line indexes parents kinds marks undefeated next start =

@@ -1,8 +1,8 @@
 -- By the branch that was taken.
 use mathlib.Core.Path.{refl}
 use borrow.Author.Tests.{eq-eqb, ne-eqb}
-use Rattle.tree.proofs.turns.settled.Statement.{statement}
-use Rattle.tree.proofs.turns.settled.Tie as tie
+use Rattle.tree.proofs.nodes.settled.Statement.{statement}
+use Rattle.tree.proofs.nodes.settled.Tie as tie
 
 returns : tie.Need-returns
 returns c = rw (eq-eqb (c .before .args .reply) 1 (c .if1 .taken)) refl
