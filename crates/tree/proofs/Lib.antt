@@ -1,4 +1,4 @@
--- Theorems on lines, trees and marks.
+-- Theorems on lines, trees and marks; then, from Stores on, laws of what the builder writes.
 pub mod Line
 pub mod Reply
 pub mod Forest

@@ -5,7 +5,7 @@ use mathlib.Core.List.{List, _∷_, _++_, map, map-append}
 use Prim.Native.Nat.{ℕ, _+_, _≤_, _<_}
 use native.Mathlib.Omega.{arith}
 use lib.ListN.{length, getD, drop, length-map}
-use lib.Seq.{sets}
+use lib.Seq.{sets, sets-eq}
 use Rattle.tree.specs.Entries.{Entry}
 use Rattle.tree.specs.Tables.{Columns, columns, written, past}
 use Rattle.tree.proofs.Stores.{sets-append, drop-sets, getD-first}
@@ -22,6 +22,14 @@ module _ (field : Entry → ℕ) (t : List ℕ) (at : ℕ) (es : List Entry) whe
 
   column-past : (n : ℕ) → at + length es ≤ n → drop n (sets t at (map field es)) ≡ drop n t
   column-past n h = drop-sets t at (map field es) n (omega (arith, length-map es field))
+
+-- a table that begins with the entries
+pub column-front : (field : Entry → ℕ) (t : List ℕ) (es : List Entry) → length es ≤ length t
+    → sets t 0 (map field es) ≡ map field es ++ drop (length (map field es)) t
+column-front field t es h =
+    let n = length-map es field in
+    let z : 0 + length (map field es) ≡ length (map field es) = omega arith in
+    sets-eq (map field es) t 0 (omega arith) ∙ ap (λ (k : ℕ). map field es ++ drop k t) z
 
 -- ---- the four
 

@@ -20,12 +20,12 @@ use Rattle.tree.specs.Entries.{Entry, preorder}
 use Rattle.tree.specs.OfLiteral.{indexIn}
 use Rattle.tree.specs.Tables.{Columns, Hold}
 
--- the line that a table holds, the root first; of its last argument first
+-- a table holds the line with its root first; as a list its last argument is first
 abbrev pub lineOf : List ℕ → (depth : ℕ) → List ℕ
 lineOf line zero = []
 lineOf line (suc depth) = getD line depth 0 ∷ lineOf line depth
 
--- all their masks as one
+-- the masks of some arguments as one
 abbrev pub masksOf : List ℕ → ℕ
 masksOf [] = 0
 masksOf (x ∷ l) = union (masksOf l) (maskOf x)
@@ -47,6 +47,7 @@ pub record Prepared (table closures exclusions arguments : List ℕ) (count : �
   pub counted : count ≤ length arguments
 
 module _ {table closures exclusions arguments : List ℕ} {count : ℕ} where
+  -- the tests of that program
   abbrev pub testsIn : Prepared table closures exclusions arguments count → Tests ℕ
   testsIn w = testsOf (w .program) (preferredTest (w .program))
 
