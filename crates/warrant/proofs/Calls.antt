@@ -17,14 +17,14 @@ use Rattle.derivation.specs.Derivation.{complement}
 use Rattle.defeat.specs.Tests.{Tests}
 use Rattle.defeat.specs.Preference.{preferredTest}
 use Rattle.tree.specs.Entries.{Entry}
-use Rattle.warrant.specs.declared.Answer.{Answer}
-use Rattle.warrant.specs.declared.Answer.the-variants.{Yes, No, Undecided, Unknown, Unfinished, Refused}
-use Rattle.warrant.specs.Answer.{occurs, forestEntries, nodeCount, warranted, answerOf, answerBy, tests, answer}
-use Rattle.warrant.specs.Answer.{codeOf, nodesOf}
+use Rattle.answer.specs.declared.Answer.{Answer}
+use Rattle.answer.specs.declared.Answer.the-variants.{Yes, No, Undecided, Unknown, Unfinished, Refused}
+use Rattle.answer.specs.Answer.{occurs, forestEntries, nodeCount, warranted, answerOf, answerBy, tests, answer}
+use Rattle.answer.specs.Answer.{codeOf, nodesOf}
 use Rattle.warrant.specs.Calls.{listIn, listVerdict, front, unlessRefused, listTable, queryVerdict, answeredBy}
 use Rattle.warrant.specs.Calls.{queried, queryArguments}
-use Rattle.warrant.specs.Calls.{nodesAfter, zeroed, queryTable, packed, hostCall}
-use Rattle.warrant.proofs.Answers.{entries-count, answer-not-refused, answer-nodes-within}
+use Rattle.warrant.specs.Calls.{nodesAfter, zeroed, queryColumn, queryTable, packed, hostCall}
+use Rattle.answer.proofs.Answers.{entries-count, answer-not-refused, answer-nodes-within}
 use Rattle.warrant.proofs.Refusals.{ByCause, accepted, refused, cause-cases, query-cause, list-accepted}
 use Rattle.warrant.proofs.Refusals.{query-accepted}
 
@@ -144,7 +144,7 @@ module _ (s : List ℕ) where
 
     pub query-table-length : {A : Type 0} (field : Entry → A) (al : ℕ) (table : List A)
         → length (queryTable field s h b al table) ≡ length table
-    unfolding queryTable queried answerBy
+    unfolding queryColumn queried answerBy
     query-table-length {A} field al table =
         answered-length (queryVerdict s h b al (length table)) (answer p h b) rows (field zeroed) table (λ e.
         after-length b (nodeCount t h) rows (field zeroed) table (query-accepted s h b al (length table) e .node-room)
@@ -192,7 +192,7 @@ module _ {A B : Type 0} (f : A → B) where
 
   pub query-table-column : (field : Entry → A) (s : List ℕ) (h b al : ℕ) (table : List A)
       → map f (queryTable field s h b al table) ≡ queryTable (λ e. f (field e)) s h b al (map f table)
-  unfolding queryTable
+  unfolding queryColumn
   query-table-column field s h b al table =
       map-after (queried s h b al (length table)) (map field rows) (field zeroed) table
       ∙ ap (λ n. after n (map f (map field rows))) (sym (length-map table f))

@@ -20,14 +20,14 @@ use Rattle.derivation.proofs.Choices.{Π-with-rules}
 use Rattle.defeat.specs.Preference.{Preferred, preferredTest}
 use Rattle.defeat.specs.OfProgram.{Exclude}
 use Rattle.defeat.proofs.Preferences.{preferred-renders}
-use Rattle.warrant.specs.Answer.{tests, answer, codeOf}
+use Rattle.answer.specs.Answer.{tests, answer, codeOf}
 use Rattle.warrant.specs.Calls.{checkImage, queryVerdict, answeredBy, queried, Call, query, host, literalAsked}
 use Rattle.warrant.specs.Calls.{SaysYes}
 use Rattle.warrant.specs.Claims.{Answers, Grants, Demand-3}
-use Rattle.warrant.proofs.Warrant.{warranted-apart}
-use Rattle.warrant.proofs.Answers.{entries-count, answer-unknown, answer-unfinished, answer-nodes-finished}
-use Rattle.warrant.proofs.Answers.{answer-nodes-unfinished}
-use Rattle.warrant.proofs.Answers.{answer-yes, answer-no, answer-undecided}
+use Rattle.answer.proofs.Warrant.{warranted-apart}
+use Rattle.answer.proofs.Answers.{entries-count, answer-unknown, answer-unfinished, answer-nodes-finished}
+use Rattle.answer.proofs.Answers.{answer-nodes-unfinished}
+use Rattle.answer.proofs.Answers.{answer-yes, answer-no, answer-undecided}
 use Rattle.warrant.proofs.Refusals.{check-accepted, check-passes, query-accepted}
 use Rattle.warrant.proofs.Calls.{answered-code, host-code}
 

@@ -1,7 +1,4 @@
--- The theorems on warrant, answers and calls.
-pub mod Warrant
-pub mod Answers
-pub mod Places
+-- The theorems on the calls.
 pub mod Refusals
 pub mod Calls
 pub mod Claims

@@ -13,12 +13,12 @@ use Rattle.image.specs.Reading.{programIn}
 use Rattle.derivation.specs.Closure.{contradictory}
 use Rattle.argument.specs.List.{argumentList}
 use Rattle.tree.specs.Entries.{Entry}
-use Rattle.warrant.specs.declared.Answer.{Answer}
-use Rattle.warrant.specs.declared.Answer.the-variants.{Yes, No, Undecided, Unknown, Unfinished, Refused}
+use Rattle.answer.specs.declared.Answer.{Answer}
+use Rattle.answer.specs.declared.Answer.the-variants.{Yes, No, Undecided, Unknown, Unfinished, Refused}
 use Rattle.warrant.specs.declared.Listed.{Listed}
 use Rattle.warrant.specs.declared.Listed.the-variants as lists
 use Rattle.warrant.specs.declared.Node.{Node}
-use Rattle.warrant.specs.Answer.{tests, forestEntries, answer, codeOf}
+use Rattle.answer.specs.Answer.{tests, forestEntries, answer, codeOf, nodesOf}
 
 -- ---- check an image
 
@@ -100,24 +100,33 @@ nodeOf e = record { argument = e .argument; parent = e .parent; kind = e .kind; 
 abbrev pub zeroed : Entry
 zeroed = record { argument = 0; parent = 0; kind = 0; mark = 0 }
 
--- what a field of the entries, or the whole entry, leaves in a table of its own: four tables of numbers, or one of nodes
-unfoldable pub queryTable : {A : Type 0} → (Entry → A) → List ℕ → (literal budget argumentRoom : ℕ) → List A → List A
-queryTable field s h budget argumentRoom table =
+-- what a field of the entries, or the whole entry, leaves in a table of its own, beside a node table of so many entries
+unfoldable pub queryColumn : {A : Type 0} → (Entry → A) → List ℕ → (literal budget argumentRoom nodeRoom : ℕ) → List A
+    → List A
+queryColumn field s h budget argumentRoom nodeRoom table =
     let forest = map field (forestEntries (tests (programIn s)) h) in
-    nodesAfter (queried s h budget argumentRoom (length table)) forest (field zeroed) table
+    nodesAfter (queried s h budget argumentRoom nodeRoom) forest (field zeroed) table
+
+-- in the node table itself
+abbrev pub queryTable : {A : Type 0} → (Entry → A) → List ℕ → (literal budget argumentRoom : ℕ) → List A → List A
+queryTable field s h budget argumentRoom table = queryColumn field s h budget argumentRoom (length table) table
 
 abbrev pub queryNodes : List ℕ → (literal budget argumentRoom : ℕ) → List Node → List Node
 queryNodes = queryTable nodeOf
 
 -- ---- the call from the host program in C
 
+-- "code × 65,536 + nodes"
+abbrev pub codeAndNodes : Answer → ℕ
+codeAndNodes a = codeOf a * 65536 + nodesOf a
+
 -- "It returns code × 65,536 + nodes, or a bare refusal number."
 abbrev pub packed : Answer → ℕ
-packed (Yes n) = 1 * 65536 + n
-packed (No n) = 2 * 65536 + n
-packed (Undecided n) = 3 * 65536 + n
-packed Unknown = 4 * 65536
-packed (Unfinished n) = 5 * 65536 + n
+packed (Yes n) = codeAndNodes (Yes n)
+packed (No n) = codeAndNodes (No n)
+packed (Undecided n) = codeAndNodes (Undecided n)
+packed Unknown = codeAndNodes Unknown
+packed (Unfinished n) = codeAndNodes (Unfinished n)
 packed (Refused number place) = number
 
 -- "which brings its own two tables of 4,096 entries, zeroed"

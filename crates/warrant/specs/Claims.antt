@@ -10,8 +10,8 @@ use Rattle.image.specs.declared.Verdict.{Verdict}
 use Rattle.image.specs.declared.Verdict.the-variants.{Accepted}
 use Rattle.image.specs.Reading.{programIn}
 use Rattle.defeat.specs.OfProgram.{Exclude}
-use Rattle.warrant.specs.Warrant.{WarrantedBy, Warranted}
-use Rattle.warrant.specs.Answer.{Occurs, nodeCount, forestEntries, tests, answer, codeOf, nodesOf}
+use Rattle.answer.specs.Warrant.{WarrantedBy, Warranted}
+use Rattle.answer.specs.Answer.{Occurs, nodeCount, forestEntries, tests, answer, codeOf, nodesOf}
 use Rattle.warrant.specs.Calls.{queryVerdict, Call, query, host, literalAsked, SaysYes}
 
 -- ---- the answers

@@ -1,5 +1,4 @@
--- Warrant, answers and calls, in the order of document 01; then what is claimed of them.
-pub mod Warrant
-pub mod Answer
+-- The calls, in the order of document 01; then what is claimed of them, and the query over tables of numbers.
 pub mod Calls
 pub mod Claims
+pub mod Columns

@@ -8,16 +8,6 @@ use image::Verdict;
 use literals::LiteralSet;
 use program::RuleTable;
 
-// A literal's answer with its number of nodes, or the number and place of the first cause that applies.
-pub enum Answer {
-    Yes { nodes: u32 },
-    No { nodes: u32 },
-    Undecided { nodes: u32 },
-    Unknown,
-    Unfinished { nodes: u32 },
-    Refused { number: u32, place: u32 },
-}
-
 // The number of arguments, or the number and place of the first cause that applies.
 pub enum Listed {
     Count(u32),

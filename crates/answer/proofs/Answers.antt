@@ -13,11 +13,11 @@ use Rattle.derivation.specs.Derivation.{complement, HeadsBelow}
 use Rattle.defeat.specs.Tests.{Tests}
 use Rattle.defeat.specs.OfProgram.{testsOf}
 use Rattle.tree.proofs.Entries.{entries-length}
-use Rattle.warrant.specs.Warrant.{WarrantedBy}
-use Rattle.warrant.specs.Answer.{Occurs, occurs, indexIn, forest, nodeCount, forestEntries, warranted, answerOf}
-use Rattle.warrant.specs.Answer.{answerBy, codeOf, nodesOf}
-use Rattle.warrant.proofs.Warrant.{occurs-renders, occurs-complement, warranted-occurs, warranted-apart}
-use Rattle.warrant.proofs.Warrant.{complement-excludes, warranted-renders}
+use Rattle.answer.specs.Warrant.{WarrantedBy}
+use Rattle.answer.specs.Answer.{Occurs, occurs, indexIn, forest, nodeCount, forestEntries, warranted, answerOf}
+use Rattle.answer.specs.Answer.{answerBy, codeOf, nodesOf}
+use Rattle.answer.proofs.Warrant.{occurs-renders, occurs-complement, warranted-occurs, warranted-apart}
+use Rattle.answer.proofs.Warrant.{complement-excludes, warranted-renders}
 
 -- ---- by the tests that decide between the answers
 

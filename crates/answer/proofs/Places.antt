@@ -6,7 +6,7 @@ use Prim.Native.Nat.{ℕ}
 use Rattle.lists.specs.Lists.{any}
 use Rattle.defeat.specs.Tests.{Tests}
 use Rattle.tree.specs.Forest.{allDefeated, replies, forestOf, undefeatedRoot}
-use Rattle.warrant.specs.Answer.{argumentsFor, warranted}
+use Rattle.answer.specs.Answer.{argumentsFor, warranted}
 
 -- h is warranted exactly where not every tree of its arguments has a root marked D
 

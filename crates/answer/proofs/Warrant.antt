@@ -25,8 +25,8 @@ use Rattle.tree.specs.Marks.{UndefeatedRoot}
 use Rattle.tree.specs.Forest.{undefeatedRoot}
 use Rattle.tree.proofs.Marks.{undefeated-renders}
 use Rattle.tree.proofs.Exclusion.{exclusive-roots}
-use Rattle.warrant.specs.Warrant.{WarrantedBy}
-use Rattle.warrant.specs.Answer.{Occurs, occurs, argumentsFor, warranted}
+use Rattle.answer.specs.Warrant.{WarrantedBy}
+use Rattle.answer.specs.Answer.{Occurs, occurs, argumentsFor, warranted}
 
 -- ---- atoms that stand in some rule
 

@@ -12,8 +12,8 @@ use Rattle.defeat.specs.Preference.{preferredTest}
 use Rattle.defeat.specs.OfProgram.{testsOf}
 pub use Rattle.tree.specs.OfLiteral.{indexIn, nodeCount, forestEntries}
 unfoldable pub use Rattle.tree.specs.OfLiteral.{argumentsFor, forest, warranted}
-use Rattle.warrant.specs.declared.Answer.{Answer}
-use Rattle.warrant.specs.declared.Answer.the-variants.{Yes, No, Undecided, Unknown, Unfinished, Refused}
+use Rattle.answer.specs.declared.Answer.{Answer}
+use Rattle.answer.specs.declared.Answer.the-variants.{Yes, No, Undecided, Unknown, Unfinished, Refused}
 
 -- "4 UNKNOWN, 0 nodes: the atom stands in no rule.": h's atom is that of some literal of some rule
 pub record Occurs (p : Program) (h : ℕ) : Type 0 where

@@ -1,0 +1,11 @@
+// Answers of a program: what specs/ defines and proofs/ shows of them, and the steps that give one.
+
+// A literal's answer with its number of nodes, or the number and place of the first cause that applies.
+pub enum Answer {
+    Yes { nodes: u32 },
+    No { nodes: u32 },
+    Undecided { nodes: u32 },
+    Unknown,
+    Unfinished { nodes: u32 },
+    Refused { number: u32, place: u32 },
+}
