@@ -9,3 +9,7 @@ pub enum Answer {
     Unfinished { nodes: u32 },
     Refused { number: u32, place: u32 },
 }
+
+mod decision;
+mod occurrence;
+pub mod sized;

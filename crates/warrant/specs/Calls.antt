@@ -18,6 +18,7 @@ use Rattle.answer.specs.declared.Answer.the-variants.{Yes, No, Undecided, Unkno
 use Rattle.warrant.specs.declared.Listed.{Listed}
 use Rattle.warrant.specs.declared.Listed.the-variants as lists
 use Rattle.warrant.specs.declared.Node.{Node}
+pub use Rattle.answer.specs.Tables.{front, nodesAfter, zeroed, columnAfter}
 use Rattle.answer.specs.Answer.{tests, forestEntries, answer, codeOf, nodesOf}
 
 -- ---- check an image
@@ -44,10 +45,6 @@ listedBy (verdicts.Refused number place) n = lists.Refused number place
 
 unfoldable pub listed : List ℕ → ℕ → Listed
 listed s room = listedBy (listVerdict s room) (length (listIn s))
-
--- a table that begins with a list; "Entries past those named keep their contents."
-abbrev pub front : {A : Type 0} → List A → List A → List A
-front l table = l ++ drop (length l) table
 
 -- where a cause applies, "all tables" are "Left as it was"
 abbrev pub unlessRefused : {A : Type 0} → Verdict → A → A → A
@@ -83,29 +80,15 @@ unfoldable pub queryArguments : List ℕ → (literal budget : ℕ) → List ℕ
 queryArguments s h budget table nodeRoom =
     unlessRefused (queryVerdict s h budget (length table) nodeRoom) (front (listIn s) table) table
 
--- a node table, or one column of it, after an answer: "The first N entries hold the forest."; "The first budget entries
--- are zeroed."; "Node table untouched."
-abbrev pub nodesAfter : {A : Type 0} → Answer → List A → A → List A → List A
-nodesAfter (Yes n) forest empty table = front forest table
-nodesAfter (No n) forest empty table = front forest table
-nodesAfter (Undecided n) forest empty table = front forest table
-nodesAfter Unknown forest empty table = table
-nodesAfter (Unfinished n) forest empty table = front (replicate n empty) table
-nodesAfter (Refused number place) forest empty table = table
-
 -- "each with: index in the argument list; parent's node number ..; kind ..; mark"
 abbrev pub nodeOf : Entry → Node
 nodeOf e = record { argument = e .argument; parent = e .parent; kind = e .kind; mark = e .mark }
-
-abbrev pub zeroed : Entry
-zeroed = record { argument = 0; parent = 0; kind = 0; mark = 0 }
 
 -- what a field of the entries, or the whole entry, leaves in a table of its own, beside a node table of so many entries
 unfoldable pub queryColumn : {A : Type 0} → (Entry → A) → List ℕ → (literal budget argumentRoom nodeRoom : ℕ) → List A
     → List A
 queryColumn field s h budget argumentRoom nodeRoom table =
-    let forest = map field (forestEntries (tests (programIn s)) h) in
-    nodesAfter (queried s h budget argumentRoom nodeRoom) forest (field zeroed) table
+    columnAfter field (queried s h budget argumentRoom nodeRoom) (forestEntries (tests (programIn s)) h) table
 
 -- in the node table itself
 abbrev pub queryTable : {A : Type 0} → (Entry → A) → List ℕ → (literal budget argumentRoom : ℕ) → List A → List A
