@@ -8,6 +8,8 @@ use image::Verdict;
 use literals::LiteralSet;
 use program::RuleTable;
 
+mod columns;
+
 // The number of arguments, or the number and place of the first cause that applies.
 pub enum Listed {
     Count(u32),
