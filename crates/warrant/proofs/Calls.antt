@@ -105,7 +105,7 @@ module _ (s : List ℕ) (h b : ℕ) where
 -- ---- lent tables keep their length
 
 module _ {A : Type 0} where
-  front-length : (l table : List A) → length l ≤ length table → length (front l table) ≡ length table
+  pub front-length : (l table : List A) → length l ≤ length table → length (front l table) ≡ length table
   front-length l table h = simp (length-append, length-drop) (omega arith)
 
   unless-length : (v : Verdict) (l table : List A) → (v ≡ verdicts.Accepted → length l ≤ length table)
@@ -171,7 +171,7 @@ module _ {A B : Type 0} (f : A → B) where
   map-drop (suc n) [] = refl
   map-drop (suc n) (x ∷ l) = map-drop n l
 
-  map-replicate : (n : ℕ) (x : A) → map f (replicate n x) ≡ replicate n (f x)
+  pub map-replicate : (n : ℕ) (x : A) → map f (replicate n x) ≡ replicate n (f x)
   map-replicate zero x = refl
   map-replicate (suc n) x = ap (λ l. f x ∷ l) (map-replicate n x)
 

@@ -4,3 +4,4 @@ pub mod Calls
 pub mod Claims
 pub mod Fittings
 pub mod Listings
+pub mod Rows

@@ -9,6 +9,7 @@ use literals::LiteralSet;
 use program::RuleTable;
 
 mod columns;
+mod nodes;
 
 // The number of arguments, or the number and place of the first cause that applies.
 pub enum Listed {
