@@ -132,12 +132,14 @@ module _ {M : Type 1} {𝓤 : URA M} {H : Heap 𝓤} {A : Atoms 𝓤} {K : Type 
         (subst (λ (m : ℕ). Room R m → ent 𝓤 (sem 𝓤 H A (cells (mem R) xs b 0)) (mean 𝓤 H A (later (some (LentMut 𝓤 H A W R n ℓ κ xs b m)))))
         l (lends-slice 𝓤 H A W R ℓ κ xs b 0) room) $ await t z $ pick t (λ γ. split t $ k γ)
 
-    -- the lifetime is over: it comes back with the list that the borrower left
+    -- the lifetime is over: the array comes back with the list that the borrower left. The lifetime stays over.
     pub comes-back : K → Soaks G → {κ : Lft} {γ : GName} (xs : List (R .Denot)) (b : ℕ)
-        → (length xs ≡ n → Seq K W (‵ (cells (mem R) xs b 0) ∷ Γ) G)
+        → (length xs ≡ n → Seq K W (‵ (cells (mem R) xs b 0) ∷ ‵ (fdead κ) ∷ Γ) G)
         → Seq K W (‵ (fdead κ) ∷ ‵ (flent κ (Held R n b 0 γ)) ∷ ‵ (finally R γ xs) ∷ Γ) G
     comes-back t z {κ} {γ} xs b k =
-        use3 W (later (‵ (Arr (mem R) n .lies xs b 0))) (slice-back 𝓤 H A W R κ γ xs n b 0) $ await t z $ fsplit t $ feqL t k
+        use1 W (‵ (fdead κ) ⊛ ‵ (fdead κ)) (W .lfts .dead-dup κ) $ split t $ move t (0 ∷ 2 ∷ 3 ∷ []) $
+        use3 W (later (‵ (Arr (mem R) n .lies xs b 0))) (slice-back 𝓤 H A W R κ γ xs n b 0) $
+        await t z $ fsplit t $ feqL t k
 
     -- lent as a `&[T]`: [the slice; the lender's part]
     pub lends-shared : K → Soaks G → (ℓ : Lifetime) (κ : Lft) (xs : List (R .Denot)) (b : ℕ) → length xs ≡ n → Room R n
@@ -155,10 +157,11 @@ module _ {M : Type 1} {𝓤 : URA M} {H : Heap 𝓤} {A : Atoms 𝓤} {K : Type 
         → Step K W (‵ (froom (tyArray (lone (R .mir)) n) b 0) ∷ Γ) G (‵ (cells (mem R) xs b 0) ∷ Γ) G
     frees-array t xs b l = use1 W (‵ (froom (tyArray (lone (R .mir)) n) b 0)) (freed 𝓤 H A W R n xs b l)
 
-    -- the lifetime of a `&[T]` is over: the array is room again
+    -- the lifetime of a `&[T]` is over, and stays over: the array is room again
     pub frees-shared : K → Soaks G → {κ : Lft} (xs : List (R .Denot)) (b : ℕ) → length xs ≡ n
-        → Step K W (‵ (froom (tyArray (lone (R .mir)) n) b 0) ∷ Γ) G
+        → Step K W (‵ (froom (tyArray (lone (R .mir)) n) b 0) ∷ ‵ (fdead κ) ∷ Γ) G
         (‵ (fdead κ) ∷ ‵ (flent κ (arr-parts (shares R) (length xs) .part fullShare xs b 0)) ∷ Γ) G
-    frees-shared t z xs b l = step (λ s.
+    frees-shared t z {κ} xs b l = step (λ s.
+        use1 W (‵ (fdead κ) ⊛ ‵ (fdead κ)) (W .lfts .dead-dup κ) $ split t $ move t (0 ∷ 2 ∷ []) $
         lent-back t z $ fsplit t $ drop t $ use1 W (‵ (cells (mem R) xs b 0)) (whole-in 𝓤 H A W R xs b 0) $
         use1 W (‵ (froom (tyArray (lone (R .mir)) n) b 0)) (freed 𝓤 H A W R n xs b l) $ s)
