@@ -73,6 +73,14 @@ packed-nodes Unknown h e = omega arith
 packed-nodes (Unfinished n) h e = omega arith
 packed-nodes (Refused n place) h e = absurd (e refl)
 
+packed-below : (a : Answer) → Small a → packed a < 0x1_0000_0000
+packed-below (Yes n) h = omega arith
+packed-below (No n) h = omega arith
+packed-below (Undecided n) h = omega arith
+packed-below Unknown h = omega arith
+packed-below (Unfinished n) h = omega arith
+packed-below (Refused n place) h = omega arith
+
 answered-small : {v : Verdict} (a : Answer) → ByCause v → (v ≡ verdicts.Accepted → Small a) → Small (answeredBy v a)
 answered-small a accepted f = f refl
 answered-small a (refused {n} c) f = go (cause-cases n c)
@@ -88,6 +96,10 @@ module _ (s : List ℕ) (h b : ℕ) where
       let k = query-accepted s h b al nl e .budget-limit in
       let n = answer-nodes-within (programIn s) (preferredTest (programIn s)) h b in
       small-nodes (answer (programIn s) h b) (answer-not-refused (programIn s) (preferredTest (programIn s)) h b) (omega arith))
+
+  -- an answer of the query call packs into 32 bits
+  pub query-packs : (al nl : ℕ) → packed (queried s h b al nl) < 0x1_0000_0000
+  query-packs al nl = packed-below (queried s h b al nl) (query-small al nl)
 
   -- the upper half is the answer's code, and 0 where a cause applies; the lower half is then its number of nodes
   pub host-code : hostCall s h b / 65536 ≡ codeOf (queried s h b 4096 4096)
