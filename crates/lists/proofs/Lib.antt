@@ -1,3 +1,5 @@
 -- The laws of lists and tests.
 pub mod Lists
 pub mod Decides
+pub mod Locals
+pub mod LocalArrays

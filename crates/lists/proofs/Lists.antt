@@ -1,7 +1,7 @@
 -- What a passed test says, and what makes it pass: by connective, then by list function. Assumes nothing.
-use mathlib.Core.Path.{_≡_, refl, ap, sym, subst}
+use mathlib.Core.Path.{_≡_, refl, ap, sym, subst, _∙_}
 use mathlib.Core.Bool.{Bool, true, false, _&&_, _||_}
-use mathlib.Core.List.{List, [], _∷_, map, List·Memᴰ, List·Memᴰ·head, List·Memᴰ·tail, List·Memᴰ·not-nil, Memᴰ·cast}
+use mathlib.Core.List.{List, [], _∷_, _++_, map, List·Memᴰ, List·Memᴰ·head, List·Memᴰ·tail, List·Memᴰ·not-nil, Memᴰ·cast}
 use mathlib.Core.Logic.{_⊎_, inl, inr}
 use Prim.Native.Nat.{ℕ, zero, suc, _+_, _≤_, _<_}
 use native.Mathlib.Omega.{arith}
@@ -216,3 +216,14 @@ upto-found first (suc count) n (List·Memᴰ·tail i) =
 pub upto-length : (first count : ℕ) → length (upto first count) ≡ count
 upto-length first zero = refl
 upto-length first (suc count) = ap suc (upto-length (suc first) count)
+
+pub upto-last : (first count : ℕ) → upto first (suc count) ≡ upto first count ++ ((first + count) ∷ [])
+upto-last first zero = ap (λ n. n ∷ []) (let e : first ≡ first + 0 = omega arith in e)
+upto-last first (suc count) =
+    ap (λ l. first ∷ l) (upto-last (suc first) count
+    ∙ ap (λ n. upto (suc first) count ++ (n ∷ [])) (let e : suc first + count ≡ first + suc count = omega arith in e))
+
+-- one number on, one function back
+pub upto-shift : {A : Type 0} (f : ℕ → A) (first count : ℕ) → map f (upto (suc first) count) ≡ map (λ n. f (suc n)) (upto first count)
+upto-shift f first zero = refl
+upto-shift f first (suc count) = ap (λ l. f (suc first) ∷ l) (upto-shift f (suc first) count)

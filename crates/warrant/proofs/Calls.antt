@@ -73,6 +73,14 @@ packed-nodes Unknown h e = omega arith
 packed-nodes (Unfinished n) h e = omega arith
 packed-nodes (Refused n place) h e = absurd (e refl)
 
+packed-below : (a : Answer) → Small a → packed a < 0x1_0000_0000
+packed-below (Yes n) h = omega arith
+packed-below (No n) h = omega arith
+packed-below (Undecided n) h = omega arith
+packed-below Unknown h = omega arith
+packed-below (Unfinished n) h = omega arith
+packed-below (Refused n place) h = omega arith
+
 answered-small : {v : Verdict} (a : Answer) → ByCause v → (v ≡ verdicts.Accepted → Small a) → Small (answeredBy v a)
 answered-small a accepted f = f refl
 answered-small a (refused {n} c) f = go (cause-cases n c)
@@ -88,6 +96,10 @@ module _ (s : List ℕ) (h b : ℕ) where
       let k = query-accepted s h b al nl e .budget-limit in
       let n = answer-nodes-within (programIn s) (preferredTest (programIn s)) h b in
       small-nodes (answer (programIn s) h b) (answer-not-refused (programIn s) (preferredTest (programIn s)) h b) (omega arith))
+
+  -- an answer of the query call packs into 32 bits
+  pub query-packs : (al nl : ℕ) → packed (queried s h b al nl) < 0x1_0000_0000
+  query-packs al nl = packed-below (queried s h b al nl) (query-small al nl)
 
   -- the upper half is the answer's code, and 0 where a cause applies; the lower half is then its number of nodes
   pub host-code : hostCall s h b / 65536 ≡ codeOf (queried s h b 4096 4096)
@@ -105,7 +117,7 @@ module _ (s : List ℕ) (h b : ℕ) where
 -- ---- lent tables keep their length
 
 module _ {A : Type 0} where
-  front-length : (l table : List A) → length l ≤ length table → length (front l table) ≡ length table
+  pub front-length : (l table : List A) → length l ≤ length table → length (front l table) ≡ length table
   front-length l table h = simp (length-append, length-drop) (omega arith)
 
   unless-length : (v : Verdict) (l table : List A) → (v ≡ verdicts.Accepted → length l ≤ length table)
@@ -171,7 +183,7 @@ module _ {A B : Type 0} (f : A → B) where
   map-drop (suc n) [] = refl
   map-drop (suc n) (x ∷ l) = map-drop n l
 
-  map-replicate : (n : ℕ) (x : A) → map f (replicate n x) ≡ replicate n (f x)
+  pub map-replicate : (n : ℕ) (x : A) → map f (replicate n x) ≡ replicate n (f x)
   map-replicate zero x = refl
   map-replicate (suc n) x = ap (λ l. f x ∷ l) (map-replicate n x)
 

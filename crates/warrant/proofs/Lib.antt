@@ -5,3 +5,4 @@ pub mod Claims
 pub mod Fittings
 pub mod Listings
 pub mod Queries
+pub mod Rows

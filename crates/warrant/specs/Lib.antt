@@ -2,3 +2,4 @@
 pub mod Calls
 pub mod Claims
 pub mod Columns
+pub mod Rows

@@ -4,11 +4,14 @@ ghost use lib.ListN.{length};
 ghost use Rattle.program.specs.Table.{Holds};
 ghost use Rattle.image.specs.Reading.{programIn};
 ghost use Rattle.warrant.specs.Calls.{checkImage, listed, listTable};
+ghost use Rattle.warrant.specs.Calls.{queried, queryArguments, queryNodes};
+use answer::Answer;
 use image::Verdict;
 use literals::LiteralSet;
 use program::RuleTable;
 
 mod columns;
+mod nodes;
 
 // The number of arguments, or the number and place of the first cause that applies.
 pub enum Listed {
@@ -64,4 +67,40 @@ pub fn list(image: &[u8], arguments: &mut [u32]) -> Listed
             place: 0,
         },
     }
+}
+
+// A literal's answer, the argument list and the forest in the lent tables; or the first cause that applies.
+pub fn query(
+    image: &[u8],
+    literal: u32,
+    budget: u32,
+    arguments: &mut [u32],
+    nodes: &mut [Node],
+) -> Answer
+    ensures { λ r. ⌜ (r ≡ queried (now (image .entry)) literal budget (length (now (arguments .entry))) (length (now (nodes .entry)))) × (now (arguments .exit) ≡ queryArguments (now (image .entry)) literal budget (now (arguments .entry)) (length (now (nodes .entry)))) × (now (nodes .exit) ≡ queryNodes (now (image .entry)) literal budget (length (now (arguments .entry))) (now (nodes .entry))) ⌝ }
+{
+    let mut indexes = [0u32; 4096];
+    let mut parents = [0u32; 4096];
+    let mut kinds = [0u8; 4096];
+    let mut marks = [0u8; 4096];
+    let answer = columns::query(
+        image,
+        literal,
+        budget,
+        nodes.len(),
+        arguments,
+        &mut indexes,
+        &mut parents,
+        &mut kinds,
+        &mut marks,
+    );
+    nodes::write(
+        nodes,
+        &indexes,
+        &parents,
+        &kinds,
+        &marks,
+        nodes::count(answer),
+    );
+    answer
 }
