@@ -1,5 +1,6 @@
 // The adviser: reads an image, prints the number of its arguments and what is answered to each of its literals. The image
 // comes from standard input, or from the files that are named, one after another.
+ghost use Prim.Native.Nat.{_≤_};
 use warrant::Listed;
 
 fn main() {
@@ -60,12 +61,19 @@ fn answers(image: &[u8], count: u32) {
     if image.len() < 12 {
         return;
     }
-    let literals = 2 * (image[0] as u32);
+    let literals = twice(image[0]);
     let mut literal: u32 = 0;
     while literal < literals {
         line(literal, host::foqtirel_query(image, literal, 4096));
         literal += 1;
     }
+}
+
+// The literals of so many atoms.
+fn twice(atoms: u8) -> u32
+    ensures { λ r. ⌜ r ≤ 510 ⌝ }
+{
+    2 * (atoms as u32)
 }
 
 // A literal's number, its answer and the nodes.
