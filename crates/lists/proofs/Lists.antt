@@ -218,12 +218,15 @@ upto-length first zero = refl
 upto-length first (suc count) = ap suc (upto-length (suc first) count)
 
 pub upto-last : (first count : ℕ) → upto first (suc count) ≡ upto first count ++ ((first + count) ∷ [])
-upto-last first zero = ap (λ n. n ∷ []) (let e : first ≡ first + 0 = omega arith in e)
+upto-last first zero =
+    let e : first ≡ first + 0 = omega arith in
+    ap (λ n. n ∷ []) e
 upto-last first (suc count) =
-    ap (λ l. first ∷ l) (upto-last (suc first) count
-    ∙ ap (λ n. upto (suc first) count ++ (n ∷ [])) (let e : suc first + count ≡ first + suc count = omega arith in e))
+    let e : suc first + count ≡ first + suc count = omega arith in
+    ap (λ l. first ∷ l) (upto-last (suc first) count ∙ ap (λ n. upto (suc first) count ++ (n ∷ [])) e)
 
--- one number on, one function back
-pub upto-shift : {A : Type 0} (f : ℕ → A) (first count : ℕ) → map f (upto (suc first) count) ≡ map (λ n. f (suc n)) (upto first count)
+-- one number on, one step back
+pub upto-shift : {A : Type 0} (f : ℕ → A) (first count : ℕ)
+    → map f (upto (suc first) count) ≡ map (λ n. f (suc n)) (upto first count)
 upto-shift f first zero = refl
 upto-shift f first (suc count) = ap (λ l. f (suc first) ∷ l) (upto-shift f (suc first) count)

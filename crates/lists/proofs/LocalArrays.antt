@@ -1,6 +1,6 @@
--- Local arrays in a walk by hand: an array that `[v; n]` made is lent, comes back, and is room again. Each rule is a step of
--- the logic's calculus and acts on the head of the context. The length is a variable throughout, and what the array holds
--- is hidden as soon as it is made: no walk unfolds a numeral, and no callee's contract may ask what a lent table holds.
+-- Local arrays in a walk by hand: an array that `[v; n]` made is lent, comes back, and is room again. Each rule is a step
+-- of the logic's calculus and acts on the head of the context. The length is a variable throughout, and what the array
+-- holds is hidden as soon as it is made: no walk unfolds a numeral, and no callee may ask what a new table holds.
 -- Assumes `Given`.
 use mathlib.Core.Path.{_≡_, refl, subst}
 use mathlib.Core.List.{List, [], _∷_}
@@ -15,9 +15,8 @@ use base.Logic.{ent, sep, ex, guard, via}
 use base.Fml.{Lft, GName, Fml, fat, froom, fdead, flent}
 use prog.Wp.{Heap, Env, Calls, Loops}
 use ghost.Atoms.{Atoms, sem}
-use types.Kit.{Given, Item, mean, ‵, later, some, given, _⊛_, Post, Goal, runs, Soaks, Seq, Step, step, _$_, _∵_, !, qed, by}
-use types.Kit.{move, use1, use2, use3, split, pick, learn, fsplit, fjoin, feqL, feqI, drop, check, show, await, updating, done}
-use types.Kit.{now as at-once}
+use types.Kit.{Given, Item, mean, ‵, later, some, given, _⊛_, Post, Goal, runs, Soaks, Seq, Step, step, _$_, _∵_, !, qed}
+use types.Kit.{by, move, use1, use2, use3, split, pick, learn, fsplit, fjoin, feqL, feqI, drop, check, show, await, done}
 use types.Run.{Opd, Finds, assigns, init}
 use types.Part.{rep}
 use types.Tokens.{lent-back}
@@ -72,7 +71,8 @@ module _ {M : Type 1} (𝓤 : URA M) (H : Heap 𝓤) (A : Atoms 𝓤) (W : Given
   repeat-typed : Element 𝓤 H A R → (x : R .Denot) (u : Val) → Is R x (u ∷ [])
       → T (hasTy (tyArray (lone (R .mir)) n) (arrayVal (replicate n u))) × WT (arrayVal (replicate n u))
   repeat-typed el x u is =
-      array-lawful 𝓤 H A W R (el .lawful) n .typed (replicate n x) (arrayVal (replicate n u) ∷ []) (repeat-is R x u is n) .0
+      array-lawful 𝓤 H A W R (el .lawful) n
+      .typed (replicate n x) (arrayVal (replicate n u) ∷ []) (repeat-is R x u is n) .0
 
   made : Element 𝓤 H A R → (x : R .Denot) (u : Val) → Is R x (u ∷ []) → (b : ℕ)
       → ent 𝓤 (H .at fullShare (tyArray (lone (R .mir)) n) b 0 (arrayVal (replicate n u)))
@@ -90,18 +90,31 @@ module _ {M : Type 1} (𝓤 : URA M) (H : Heap 𝓤) (A : Atoms 𝓤) (W : Given
       (array-apart 𝓤 H A W R fullShare (el .single) n (replicate n x) b 0) $
       fsplit ! $ drop ! $ by ! (whole-in 𝓤 H A W R (replicate n x) b 0)
 
-  abbrev LentMut : Lifetime → Lft → List (R .Denot) → ℕ → ℕ → GName → Item 𝓤
-  LentMut ℓ κ xs b m γ =
-      ‵ (MutSlice ℓ κ R .own (tableAt b γ xs) (sliceVal (b, 0) m ∷ [])) ⊛ ‵ (flent κ (Held R m b 0 γ))
+  -- a slice of m elements for a borrower, and the lender's part
+  abbrev LentMut : Lifetime → Lft → List (R .Denot) → ℕ → ℕ → Item 𝓤
+  LentMut ℓ κ xs b m = later (some (λ (γ : GName).
+      ‵ (MutSlice ℓ κ R .own (tableAt b γ xs) (sliceVal (b, 0) m ∷ [])) ⊛ ‵ (flent κ (Held R m b 0 γ))))
 
-  abbrev LentShared : Lifetime → Lft → List (R .Denot) → ℕ → ℕ → GName → Item 𝓤
-  LentShared ℓ κ xs b m γ =
-      ‵ (ShrSlice ℓ κ R .own (tableAt b γ xs) (sliceVal (b, 0) m ∷ [])) ⊛ ‵ (flent κ (Parts xs b))
+  abbrev LentShared : Lifetime → Lft → List (R .Denot) → ℕ → ℕ → Item 𝓤
+  LentShared ℓ κ xs b m = later (some (λ (γ : GName).
+      ‵ (ShrSlice ℓ κ R .own (tableAt b γ xs) (sliceVal (b, 0) m ∷ [])) ⊛ ‵ (flent κ (Parts xs b))))
 
-  shared : (xs : List (R .Denot)) (b : ℕ) → ent 𝓤 (sem 𝓤 H A (Cells xs b)) (sem 𝓤 H A (Parts xs b))
-  shared xs b =
-      qed W (‵ (Cells xs b) ∷ []) ∵ use1 W (‵ (row R fullShare xs b 0)) (whole-out 𝓤 H A W R xs b 0) $
-      feqI ! ℕ (length xs) (length xs) refl $ done !
+  lent-mut : (ℓ : Lifetime) (κ : Lft) (xs : List (R .Denot)) (b : ℕ) → length xs ≡ n → Room R n
+      → ent 𝓤 (sem 𝓤 H A (Cells xs b)) (mean 𝓤 H A (LentMut ℓ κ xs b n))
+  lent-mut ℓ κ xs b l =
+      subst (λ (m : ℕ). Room R m → ent 𝓤 (sem 𝓤 H A (Cells xs b)) (mean 𝓤 H A (LentMut ℓ κ xs b m))) l
+      (lends-slice 𝓤 H A W R ℓ κ xs b 0)
+
+  lent-shared : (ℓ : Lifetime) (κ : Lft) (xs : List (R .Denot)) (b : ℕ) → length xs ≡ n → Room R n
+      → ent 𝓤 (sem 𝓤 H A (Cells xs b)) (mean 𝓤 H A (LentShared ℓ κ xs b n))
+  lent-shared ℓ κ xs b l =
+      subst (λ (m : ℕ). Room R m → ent 𝓤 (sem 𝓤 H A (Cells xs b)) (mean 𝓤 H A (LentShared ℓ κ xs b m))) l
+      (λ room. via 𝓤 (sem 𝓤 H A (Parts xs b)) whole (lends-shr-slice 𝓤 H A W R ℓ κ fullShare xs b 0 room))
+    where
+      whole : ent 𝓤 (sem 𝓤 H A (Cells xs b)) (sem 𝓤 H A (Parts xs b))
+      whole =
+          qed W (‵ (Cells xs b) ∷ []) ∵ use1 W (‵ (row R fullShare xs b 0)) (whole-out 𝓤 H A W R xs b 0) $
+          feqI ! ℕ (length xs) (length xs) refl $ done !
 
   freed : (xs : List (R .Denot)) (b : ℕ) → length xs ≡ n
       → ent 𝓤 (sem 𝓤 H A (Cells xs b)) (H .room (tyArray (lone (R .mir)) n) b 0)
@@ -115,8 +128,8 @@ module _ {M : Type 1} (𝓤 : URA M) (H : Heap 𝓤) (A : Atoms 𝓤) (W : Given
 
 module _ {M : Type 1} {𝓤 : URA M} {H : Heap 𝓤} {A : Atoms 𝓤} {K : Type 0} {W : Given 𝓤 H A} {Γ : List (Item 𝓤)} where
   -- `[v; n]` is stored to the local that the head is room for: some list of n lies there
-  pub makes-array : K → {E : Env 𝓤 H} {C : Calls 𝓤 H} {Λ : Loops 𝓤 H} {q : Post 𝓤 H} {rest : Body} {o : Operand} {p : Place}
-      {b : ℕ} (R : RattleType) (n : ℕ) → Element 𝓤 H A R → (x : R .Denot) {u : Val} → Is R x (u ∷ [])
+  pub makes-array : K → {E : Env 𝓤 H} {C : Calls 𝓤 H} {Λ : Loops 𝓤 H} {q : Post 𝓤 H} {rest : Body} {o : Operand}
+      {p : Place} {b : ℕ} (R : RattleType) (n : ℕ) → Element 𝓤 H A R → (x : R .Denot) {u : Val} → Is R x (u ∷ [])
       → Opd K W (‵ (froom (tyArray (lone (R .mir)) n) b 0) ∷ Γ) E o u
       → Finds K W (‵ (froom (tyArray (lone (R .mir)) n) b 0) ∷ Γ) E p (tyArray (lone (R .mir)) n, b, 0)
       → ((xs : List (R .Denot)) → length xs ≡ n → Seq K W (‵ (cells (mem R) xs b 0) ∷ Γ) (runs C Λ E rest q))
@@ -133,9 +146,8 @@ module _ {M : Type 1} {𝓤 : URA M} {H : Heap 𝓤} {A : Atoms 𝓤} {K : Type 
         ∷ ‵ (flent κ (Held R n b 0 γ)) ∷ Γ) G)
         → Seq K W (‵ (cells (mem R) xs b 0) ∷ Γ) G
     lends-mut t z ℓ κ xs b l room k =
-        use1 W (later (some (LentMut 𝓤 H A W R n ℓ κ xs b n)))
-        (subst (λ (m : ℕ). Room R m → ent 𝓤 (sem 𝓤 H A (cells (mem R) xs b 0)) (mean 𝓤 H A (later (some (LentMut 𝓤 H A W R n ℓ κ xs b m)))))
-        l (lends-slice 𝓤 H A W R ℓ κ xs b 0) room) $ await t z $ pick t (λ γ. split t $ k γ)
+        use1 W (LentMut 𝓤 H A W R n ℓ κ xs b n) (lent-mut 𝓤 H A W R n ℓ κ xs b l room) $ await t z $
+        pick t (λ γ. split t $ k γ)
 
     -- the lifetime is over: the array comes back with the list that the borrower left. The lifetime stays over.
     pub comes-back : K → Soaks G → {κ : Lft} {γ : GName} (xs : List (R .Denot)) (b : ℕ)
@@ -152,10 +164,8 @@ module _ {M : Type 1} {𝓤 : URA M} {H : Heap 𝓤} {A : Atoms 𝓤} {K : Type 
         ∷ ‵ (flent κ (arr-parts (shares R) (length xs) .part fullShare xs b 0)) ∷ Γ) G)
         → Seq K W (‵ (cells (mem R) xs b 0) ∷ Γ) G
     lends-shared t z ℓ κ xs b l room k =
-        use1 W (later (some (LentShared 𝓤 H A W R n ℓ κ xs b n)))
-        (subst (λ (m : ℕ). Room R m → ent 𝓤 (sem 𝓤 H A (cells (mem R) xs b 0)) (mean 𝓤 H A (later (some (LentShared 𝓤 H A W R n ℓ κ xs b m)))))
-        l (λ r. via 𝓤 _ (shared 𝓤 H A W R n xs b) (lends-shr-slice 𝓤 H A W R ℓ κ fullShare xs b 0 r)) room) $
-        await t z $ pick t (λ γ. split t $ k γ)
+        use1 W (LentShared 𝓤 H A W R n ℓ κ xs b n) (lent-shared 𝓤 H A W R n ℓ κ xs b l room) $ await t z $
+        pick t (λ γ. split t $ k γ)
 
     -- the elements are room for the array
     pub frees-array : K → (xs : List (R .Denot)) (b : ℕ) → length xs ≡ n

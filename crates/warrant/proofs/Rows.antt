@@ -1,5 +1,5 @@
--- Rows written to the front of the node table, one more at a time; and that the rows which the query over columns leaves are
--- the node table's entries, as many as its answer names. Assumes nothing.
+-- Rows at the front of the node table, written one at a time; and that the rows which the query over columns leaves, as
+-- many as its answer names, are the entries of the node table. Assumes nothing.
 use mathlib.Core.Path.{_≡_, refl, sym, ap, _∙_}
 use mathlib.Core.Bool.{Bool, true, false}
 use mathlib.Core.List.{List, [], _∷_, _++_, map, map-append}
@@ -62,7 +62,8 @@ module _ (t : Columns) where
 -- ---- the entries' fields in four tables are the entries
 
 rows-of : (es : List Entry) (a p k m : List ℕ)
-    → rows (length es) (columns (map (λ e. e .argument) es ++ a) (map (λ e. e .parent) es ++ p) (map (λ e. e .kind) es ++ k) (map (λ e. e .mark) es ++ m))
+    → rows (length es) (columns (map (λ e. e .argument) es ++ a) (map (λ e. e .parent) es ++ p)
+    (map (λ e. e .kind) es ++ k) (map (λ e. e .mark) es ++ m))
     ≡ map nodeOf es
 rows-of [] a p k m = refl
 rows-of (e ∷ es) a p k m = ap (λ l. nodeOf e ∷ l) (upto-shift _ 0 (length es) ∙ rows-of es a p k m)
@@ -142,7 +143,8 @@ module _ (s : List ℕ) (h b al : ℕ) where
       let t = tests (programIn s) in
       let n = nodeCount t h in
       answered-counts (queryVerdict s h b al nl) (answer (programIn s) h b) entries
-      (answer-counts b n entries (sym (entries-count t h)) (occurs (programIn s) h) (ltb b n) (warranted t h) (warranted t (complement h)))
+      (answer-counts b n entries (sym (entries-count t h)) (occurs (programIn s) h) (ltb b n) (warranted t h)
+      (warranted t (complement h)))
 
   -- the rows of what the query over columns leaves, as many as its answer names, are what the query leaves
   module _ (table : List Node) (t : Columns) where
@@ -168,7 +170,8 @@ module _ (s : List ℕ) (h b al : ℕ) where
     pub query-rows : front (rows (nodesOf a) (queryColumns s h b al (length table) t)) table ≡ queryNodes s h b al table
     unfolding queryColumn
     query-rows =
-        ap (λ n. front (rows n (queryColumns s h b al (length table) t)) table) (after-count a entries (query-counts (length table)))
+        ap (λ n. front (rows n (queryColumns s h b al (length table) t)) table)
+        (after-count a entries (query-counts (length table)))
         ∙ ap (λ c. front (rows (length es) c) table) columns-are
         ∙ ap (λ l. front l table) (rows-of es _ _ _ _)
         ∙ sym (after-front nodeOf a entries table)

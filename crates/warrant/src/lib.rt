@@ -20,6 +20,8 @@ pub enum Listed {
 }
 
 // A node of a dialectical tree: its argument's index in the argument list, its parent's node number, its kind, its mark.
+// In C's layout, since tests lend such a table from outside.
+#[repr(C)]
 pub struct Node {
     pub argument: u32,
     pub parent: u32,

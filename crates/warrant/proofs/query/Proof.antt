@@ -1,6 +1,6 @@
 -- A walk of `query`: four local tables are made and lent to `columns::query`, come back, and are lent to `write`, which
--- stores as many rows as `count` says. All that is known of the three is that each meets its contract. The two tables that
--- the caller lent are given up for good, `arguments` to `columns::query` and `nodes` to `write`. Assumes nothing.
+-- stores as many rows as `count` says. All that is known of the three is that each meets its contract. The two tables
+-- that the caller lent are given up for good, `arguments` to `columns::query` and `nodes` to `write`. Assumes nothing.
 use mathlib.Core.Path.{_≡_, refl, sym, _∙_, ap, subst}
 use mathlib.Core.List.{List, [], _∷_}
 use Prim.Native.Nat.{ℕ, _<_, _≤_, _^_}
@@ -164,8 +164,8 @@ module _ {M : Type 1} (𝓤 : URA M) (H : Heap 𝓤) (A : Atoms 𝓤) (W : Given
       let same : m ≡ nodesOf (queried (im .now) li bu al nl) = counted ∙ ap nodesOf e in
       (omega (arith, k .0), omega (arith, k .1))
 
-  held : {x₀ x₁ x₂ x₃ : List ℕ} (m : ℕ) → m ≤ 4096 → length x₀ ≡ 4096 → length x₁ ≡ 4096 → length x₂ ≡ 4096 → length x₃ ≡ 4096
-      → Hold m (columns x₀ x₁ x₂ x₃)
+  held : {x₀ x₁ x₂ x₃ : List ℕ} (m : ℕ) → m ≤ 4096 → length x₀ ≡ 4096 → length x₁ ≡ 4096 → length x₂ ≡ 4096
+      → length x₃ ≡ 4096 → Hold m (columns x₀ x₁ x₂ x₃)
   held m few len₀ len₁ len₂ len₃ = record {
     arguments-hold = omega arith;
     parents-hold = omega arith;
@@ -174,8 +174,8 @@ module _ {M : Type 1} (𝓤 : URA M) (H : Heap 𝓤) (A : Atoms 𝓤) (W : Given
   }
 
   -- `query` ensures what `columns::query` says, and `write` of its rows
-  ends : (before : Columns) (r : Answer) (za z₀ z₁ z₂ z₃ : List ℕ) (m : ℕ) (zn : List Node) → Core-says before r za z₀ z₁ z₂ z₃
-      → m ≡ nodesOf r → Write-says (columns z₀ z₁ z₂ z₃) m zn
+  ends : (before : Columns) (r : Answer) (za z₀ z₁ z₂ z₃ : List ℕ) (m : ℕ) (zn : List Node)
+      → Core-says before r za z₀ z₁ z₂ z₃ → m ≡ nodesOf r → Write-says (columns z₀ z₁ z₂ z₃) m zn
       → (r ≡ queried (im .now) li bu al nl) × (za ≡ queryArguments (im .now) li bu (ar .now) nl)
       × (zn ≡ queryNodes (im .now) li bu al (no .now))
   ends before r za z₀ z₁ z₂ z₃ m zn said counted wrote = (
@@ -259,8 +259,8 @@ module _ {M : Type 1} (𝓤 : URA M) (H : Heap 𝓤) (A : Atoms 𝓤) (W : Given
     core-back w = later (some (λ (r : Answer).
         ((‵ (flft κi qi) ⊛ ‵ (flft κa qa) ⊛ ‵ (flft (α ∷ []) fullShare) ⊛ ‵ ftrue) ⊛ ‵ (answer.the-row .own r (w ∷ [])))
         ⊛ some (λ (zs : Left-core). ‵ (lasts core.ended (κi, (κa, (α ∷ [], tt))) arg-core zs)
-        ⊛ raw (fact 𝓤 (Core-says (columns x₀ x₁ x₂ x₃) r (zs .1 .1 .1 .1 .0) (zs .1 .1 .1 .1 .1 .0) (zs .1 .1 .1 .1 .1 .1 .0)
-        (zs .1 .1 .1 .1 .1 .1 .1 .0) (zs .1 .1 .1 .1 .1 .1 .1 .1 .0))))))
+        ⊛ raw (fact 𝓤 (Core-says (columns x₀ x₁ x₂ x₃) r (zs .1 .1 .1 .1 .0) (zs .1 .1 .1 .1 .1 .0)
+        (zs .1 .1 .1 .1 .1 .1 .0) (zs .1 .1 .1 .1 .1 .1 .1 .0) (zs .1 .1 .1 .1 .1 .1 .1 .1 .0))))))
 
     -- `write`
     module _ (m : ℕ) (w : Val) where
@@ -307,7 +307,8 @@ module _ {M : Type 1} (𝓤 : URA M) (H : Heap 𝓤) (A : Atoms 𝓤) (W : Given
   abbrev to-count : Answer → Val → Count 𝓤 H A mm run .Ghost
   to-count r w = ((tt, tt, tt, (r, tt), (w ∷ [], tt)), tt)
 
-  goes-count : (r : Answer) (w : Val) → Is answer.the-row r (w ∷ []) → ent 𝓤 (emp 𝓤) (Count 𝓤 H A mm run .pre (to-count r w))
+  goes-count : (r : Answer) (w : Val) → Is answer.the-row r (w ∷ [])
+      → ent 𝓤 (emp 𝓤) (Count 𝓤 H A mm run .pre (to-count r w))
   goes-count r w is =
       qed W [] ∵ nothing ! $
       owned ! answer.the-row (Is answer.the-row) (enums.makes answer.the-type answer-laws.the-plain 𝓤 H A) r (w ∷ []) is $

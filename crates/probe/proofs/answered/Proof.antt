@@ -1,0 +1,108 @@
+-- The number of an answer, by its cases: each is the answer's own number. Assumes nothing.
+use mathlib.Core.Path.{ap}
+use native.Mathlib.Omega.{arith}
+use Rattle.probe.specs.Probe.{answeredNumber}
+use borrow.Author.Needs.{needs}
+use Rattle.probe.proofs.answered.Statement.{statement}
+use Rattle.probe.proofs.answered.Tie as tie
+
+enum-known-answer : tie.Need-enum-known-answer
+enum-known-answer c = search needs
+
+cast-result : tie.Need-cast-result
+cast-result c = search needs
+
+add-result : tie.Need-add-result
+add-result c = search needs
+
+enum-known-answer-2 : tie.Need-enum-known-answer-2
+enum-known-answer-2 c = search needs
+
+cast-result-2 : tie.Need-cast-result-2
+cast-result-2 c = search needs
+
+add-result-2 : tie.Need-add-result-2
+add-result-2 c = search needs
+
+enum-known-answer-3 : tie.Need-enum-known-answer-3
+enum-known-answer-3 c = search needs
+
+cast-result-3 : tie.Need-cast-result-3
+cast-result-3 c = search needs
+
+add-result-3 : tie.Need-add-result-3
+add-result-3 c = search needs
+
+enum-told : tie.Need-enum-told
+enum-told c = search needs
+
+enum-known-answer-4 : tie.Need-enum-known-answer-4
+enum-known-answer-4 c = search needs
+
+cast-result-4 : tie.Need-cast-result-4
+cast-result-4 c = search needs
+
+add-result-4 : tie.Need-add-result-4
+add-result-4 c = search needs
+
+enum-known-answer-5 : tie.Need-enum-known-answer-5
+enum-known-answer-5 c = search needs
+
+cast-result-5 : tie.Need-cast-result-5
+cast-result-5 c = search needs
+
+mul-result : tie.Need-mul-result
+mul-result c = search needs
+
+cast-result-6 : tie.Need-cast-result-6
+cast-result-6 c = search needs
+
+add-result-5 : tie.Need-add-result-5
+add-result-5 c = search needs
+
+returns : tie.Need-returns
+returns c = omega (arith, ap answeredNumber (c .before .answer .given .1))
+
+returns-2 : tie.Need-returns-2
+returns-2 c = omega (arith, ap answeredNumber (c .before .answer2 .given .1))
+
+returns-3 : tie.Need-returns-3
+returns-3 c = omega (arith, ap answeredNumber (c .before .answer3 .given .1))
+
+returns-4 : tie.Need-returns-4
+returns-4 c = search needs
+
+returns-5 : tie.Need-returns-5
+returns-5 c = omega (arith, ap answeredNumber (c .before .answer4 .given .1))
+
+returns-6 : tie.Need-returns-6
+returns-6 c = omega (arith, ap answeredNumber (c .before .answer5 .given .1))
+
+pub answered-spec : {M : Type 1} → statement M
+answered-spec =
+    tie.close
+    (tie.spec
+    enum-known-answer
+    cast-result
+    add-result
+    enum-known-answer-2
+    cast-result-2
+    add-result-2
+    enum-known-answer-3
+    cast-result-3
+    add-result-3
+    enum-told
+    enum-known-answer-4
+    cast-result-4
+    add-result-4
+    enum-known-answer-5
+    cast-result-5
+    mul-result
+    cast-result-6
+    add-result-5
+    returns
+    returns-2
+    returns-3
+    returns-4
+    returns-5
+    returns-6)
