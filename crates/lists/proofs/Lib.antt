@@ -1,3 +1,4 @@
 -- The laws of lists and tests.
 pub mod Lists
+pub mod Scans
 pub mod Decides
