@@ -56,10 +56,7 @@ pub fn entry(exclusions: &[u64; 256], literal: u64) -> LiteralSet
     ensures { λ r. ⌜ setOf r ≡ excludedBy (now (exclusions .entry)) literal ⌝ }
 {
     let at = (2 * literal) as usize;
-    LiteralSet {
-        lo: exclusions[at],
-        hi: exclusions[at + 1],
-    }
+    LiteralSet::of_words(exclusions[at], exclusions[at + 1])
 }
 
 // The literals of u that exclude a. What a alone derives is the start for all of them.
