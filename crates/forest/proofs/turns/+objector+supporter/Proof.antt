@@ -1,7 +1,7 @@
 -- Supporter and objector: each step is a `Turn` at its loop, and what holds of one holds of the other, so the invariant, the
 -- measure and what is known of the calls are stated once. The measure is the budget that is left. Assumes nothing.
 use mathlib.Core.Path.{refl, ap, _∙_}
-use Prim.Native.Nat.{ℕ, _+_, _-_, _<_}
+use Prim.Native.Nat.{ℕ, _-_, _<_}
 use borrow.Author.Needs.{needs}
 use borrow.Fn.Kinds.{In}
 use borrow.Fn.PlainCycle.{Measures, is, falls, and}
