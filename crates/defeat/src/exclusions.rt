@@ -10,7 +10,7 @@ ghost use Rattle.program.specs.Table.{Holds, Shaped};
 ghost use Rattle.derivation.specs.Closure.{closure};
 ghost use Rattle.defeat.specs.Exclusions.{excludedBy, Excluded, Conclusions};
 ghost use Rattle.defeat.specs.Steps.{RowOf};
-use crate::numbers;
+use argument::numbers;
 use literals::LiteralSet;
 use program::RuleTable;
 

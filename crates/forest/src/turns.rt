@@ -3,7 +3,7 @@
 ghost use Prim.Native.Nat.{_<_};
 ghost use Rattle.tree.specs.Tables.{columns};
 ghost use Rattle.tree.specs.Steps.{Ready, Leaves};
-use defeat::numbers::mask_of;
+use argument::numbers::mask_of;
 use program::RuleTable;
 use tree::candidates::first_reply;
 use tree::nodes::enter;

@@ -15,7 +15,7 @@ use Rattle.forest.proofs.turns.supporter.Kinds as supporter-kinds
 use Rattle.forest.proofs.turns.+objector+supporter.Lts-supporter as supporter-lts
 use Rattle.tree.proofs.candidates.first_reply.Reads as first-reply-reads
 use Rattle.tree.proofs.nodes.enter.Reads as enter-reads
-use Rattle.defeat.proofs.numbers.mask_of.Reads as mask-of-reads
+use Rattle.argument.proofs.numbers.mask_of.Reads as mask-of-reads
 use Rattle.tree.proofs.nodes.settled.Reads as settled-reads
 use Rattle.forest.proofs.turns.+objector+supporter.{statement}
 use Rattle.forest.proofs.turns.+objector+supporter.Tie.{close}
