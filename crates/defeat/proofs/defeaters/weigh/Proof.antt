@@ -180,12 +180,7 @@ returns-2 c =
     attacked _ (c .before .preferred .ensures) (c .if3 .taken)
 
 preferred-requires-2 : tie.Need-preferred-requires-2 Inv-loop μ-loop
-preferred-requires-2 c κs =
-    let t = c .before .before .before .before .before .before .before in
-    let masks = t .before .before .before .pre .1 in
-    let small = t .before .before .before .pre .0 .small (t .before .loop .i) (t .loop-test .taken) in
-    let mask = c .before .before .before .before .before .mask-of .ensures in
-    (omega arith, omega arith)
+preferred-requires-2 c κs = let small = preferred-requires (c .before .before) κs in (small .1, small .0)
 
 loop-less-2 : tie.Need-loop-less-2 Inv-loop μ-loop
 loop-less-2 c = search needs
