@@ -25,6 +25,21 @@ pub record Long (t u : Columns) : Type 0 where
   pub kinds-long : length (t .kinds) ≡ length (u .kinds)
   pub marks-long : length (t .marks) ≡ length (u .marks)
 
+-- the lengths as a call gives them, one for each table that it was lent
+abbrev pub Lengths : Columns → Columns → Type 0 → Type 0
+Lengths t u R =
+    (length (t .arguments) ≡ length (u .arguments))
+    × ((length (t .parents) ≡ length (u .parents))
+    × ((length (t .kinds) ≡ length (u .kinds)) × ((length (t .marks) ≡ length (u .marks)) × R)))
+
+pub long-kept : (t u : Columns) {R : Type 0} → Lengths t u R → Long t u
+long-kept t u e = record {
+  arguments-long = e .0;
+  parents-long = e .1 .0;
+  kinds-long = e .1 .1 .0;
+  marks-long = e .1 .1 .1 .0;
+}
+
 pub long-trans : {t u v : Columns} → Long t u → Long u v → Long t v
 long-trans a b = record {
   arguments-long = a .arguments-long ∙ b .arguments-long;
@@ -246,12 +261,7 @@ module _ {table closures exclusions arguments : List ℕ} {count : ℕ} {line₀
           pub turn-mark : end ≤ limit → length (t′ .marks) ≡ length (t .marks) → next < length (t′ .marks)
           turn-mark h e = omega (arith, turn-room h, turn-holds .marks-hold)
 
-          -- the lengths come as a call gives them: one for each table that it was lent
-          pub turn-step : {mark′ : ℕ} {R : Type 0} → end ≤ limit → length line′ ≡ length line
-              → (length (t′ .arguments) ≡ length (t .arguments))
-              × ((length (t′ .parents) ≡ length (t .parents))
-              × ((length (t′ .kinds) ≡ length (t .kinds))
-              × ((length (t′ .marks) ≡ length (t .marks)) × R)))
+          pub turn-step : {mark′ : ℕ} {R : Type 0} → end ≤ limit → length line′ ≡ length line → Lengths t′ t R
               → mark′ ≡ settledBy mark (getD (t′ .marks) next 0)
               → Turn table closures exclusions arguments count line₀ depth own other j parent kind at limit t₀ x joined line′ t′
               mark′ end (i + 1)
@@ -262,15 +272,7 @@ module _ {table closures exclusions arguments : List ℕ} {count : ℕ} {line₀
             room = T .room;
             line-is = below .1 ∙ T .line-is;
             line-long = nl ∙ T .line-long;
-            tables-long =
-                long-trans
-                (record {
-                  arguments-long = lengths .0;
-                  parents-long = lengths .1 .0;
-                  kinds-long = lengths .1 .1 .0;
-                  marks-long = lengths .1 .1 .1 .0;
-                })
-                (T .tables-long);
+            tables-long = long-trans (long-kept t′ t lengths) (T .tables-long);
             low = omega (arith, T .low, turn-room h);
             high = h;
             start-in = omega arith;

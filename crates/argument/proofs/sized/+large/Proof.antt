@@ -13,7 +13,7 @@ use Rattle.program.specs.Table.{Holds}
 use Rattle.argument.specs.declared.Listed.{Listed}
 use Rattle.argument.specs.declared.Listed.the-variants.{Count, Over}
 use Rattle.argument.specs.List.{argumentList}
-use Rattle.argument.specs.Listing.{listed, withList}
+use Rattle.argument.specs.Listing.{listed, withList, Lists}
 use Rattle.argument.proofs.Tables.{room-upto}
 use Prim.Native.Nat.{ℕ, _<_}
 use borrow.Fn.Kinds.{In}
@@ -25,14 +25,8 @@ use Rattle.argument.proofs.list.Reads as list-reads
 use Rattle.argument.proofs.sized.+large.{statement}
 use Rattle.argument.proofs.sized.+large.Tie.{close}
 
--- of every program that the table holds, its list stands in v, and q says so, where it was u before
-abbrev Done : (table u v : List ℕ) → Listed → Type 0
-Done table u v q =
-    ((p : Program) → Limits p → Holds p table → q ≡ listed (argumentList (p .rules)) u)
-    × ((p : Program) → Limits p → Holds p table → v ≡ withList (argumentList (p .rules)) u)
-
 -- a list that does not fit leaves the table as it was, so that the next call finds it so
-again : (table t : List ℕ) {u v : List ℕ} {r q : Listed} → Done table t u r → r ≡ Over → Done table u v q → Done table t v q
+again : (table t : List ℕ) {u v : List ℕ} {r q : Listed} → Lists table t u r → r ≡ Over → Lists table u v q → Lists table t v q
 again table t {u} {v} {r} {q} first o next = (
   λ p l h. next .0 p l h ∙ ap (listed (argumentList (p .rules))) (same p l h),
   λ p l h. next .1 p l h ∙ ap (withList (argumentList (p .rules))) (same p l h),
