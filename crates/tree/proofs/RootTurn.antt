@@ -53,8 +53,8 @@ module _ {table closures exclusions arguments : List ℕ} {count h : ℕ} {line�
     pub root-turn-less : count - (j + 1) < count - start
     root-turn-less = omega (arith, f .low)
 
-    pub root-turn-next : j + 1 < 2 ^ 64
-    root-turn-next = omega (arith, prepared-count (T .ready .prepared))
+    pub root-turn-index : j < 2 ^ 32
+    root-turn-index = omega (arith, prepared-count (T .ready .prepared))
 
     -- a root's step: no line is before it, and its parent is its own number
     pub root-ready : Ready table closures exclusions arguments count line 0 0 0 j next 0 next limit t

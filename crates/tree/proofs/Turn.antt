@@ -234,8 +234,8 @@ module _ {table closures exclusions arguments : List ℕ} {count : ℕ} {line₀
         pub turn-less : count - (i + 1) < count - start
         turn-less = let l = found .0 .0 in omega arith
 
-        pub turn-next : i + 1 < 2 ^ 64
-        turn-next = omega (arith, prepared-count (T .ready .prepared))
+        pub turn-index : i < 2 ^ 32
+        turn-index = omega (arith, prepared-count (T .ready .prepared))
 
         -- the other side's step on it is done
         module _ {end : ℕ} (line′ : List ℕ) {t′ : Columns}

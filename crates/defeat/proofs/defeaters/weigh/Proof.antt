@@ -180,7 +180,11 @@ returns-2 c =
     attacked _ (c .before .preferred .ensures) (c .if3 .taken)
 
 preferred-requires-2 : tie.Need-preferred-requires-2 Inv-loop μ-loop
-preferred-requires-2 c κs = let small = preferred-requires (c .before .before) κs in (small .1, small .0)
+preferred-requires-2 c κs =
+    let small = preferred-requires (c .before .before) κs in
+    let x = small .0 in
+    let m = small .1 in
+    (omega arith, omega arith)
 
 loop-less-2 : tie.Need-loop-less-2 Inv-loop μ-loop
 loop-less-2 c = search needs

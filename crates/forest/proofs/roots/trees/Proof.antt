@@ -1,8 +1,9 @@
 -- The trees written so far and those that are left make up the whole.
 use mathlib.Core.Path.{_∙_}
 use Prim.Native.Nat.{_-_}
+use native.Mathlib.Omega.{arith}
 use Rattle.tree.specs.Tables.{columns}
-use Rattle.tree.proofs.RootTurn.{RootTurn, root-turn-start, root-turn-end, root-ready, root-turn-over, root-turn-mark, root-turn-next, root-turn-less, root-turn-step}
+use Rattle.tree.proofs.RootTurn.{RootTurn, root-turn-start, root-turn-end, root-ready, root-turn-over, root-turn-mark, root-turn-index, root-turn-less, root-turn-step}
 use borrow.Author.Needs.{needs}
 use Rattle.forest.proofs.roots.trees.Statement.{statement}
 use Rattle.forest.proofs.roots.trees.Tie as tie
@@ -69,10 +70,10 @@ or-undefeated-requires : tie.Need-or-undefeated-requires Inv-loop μ-loop
 or-undefeated-requires c κs = search needs
 
 add-start : tie.Need-add-start Inv-loop μ-loop
-add-start c = record { fits = root-turn-next (c .before .before .before .before .before .before .before .before .before .before .before .before .before .before .before .before .before .before .before .before .before .loop .inv) (c .before .before .before .before .before .before .before .before .before .before .before .before .before .before .before .before .before .before .before .before .first-for .ensures) (c .before .before .before .before .before .before .before .before .before .before .before .before .before .before .before .before .before .before .before .if1 .left) }
+add-start c = omega (arith, root-turn-index (c .before .before .before .before .before .before .before .before .before .before .before .before .before .before .before .before .before .before .before .before .before .loop .inv) (c .before .before .before .before .before .before .before .before .before .before .before .before .before .before .before .before .before .before .before .before .first-for .ensures) (c .before .before .before .before .before .before .before .before .before .before .before .before .before .before .before .before .before .before .before .if1 .left))
 
 loop-less : tie.Need-loop-less Inv-loop μ-loop
-loop-less c = root-turn-less (c .before .before .before .before .before .before .before .before .before .before .before .before .before .before .before .before .before .before .before .before .before .loop .inv) (c .before .before .before .before .before .before .before .before .before .before .before .before .before .before .before .before .before .before .before .before .first-for .ensures) (c .before .before .before .before .before .before .before .before .before .before .before .before .before .before .before .before .before .before .before .if1 .left)
+loop-less c = omega (arith, root-turn-less (c .before .before .before .before .before .before .before .before .before .before .before .before .before .before .before .before .before .before .before .before .before .loop .inv) (c .before .before .before .before .before .before .before .before .before .before .before .before .before .before .before .before .before .before .before .before .first-for .ensures) (c .before .before .before .before .before .before .before .before .before .before .before .before .before .before .before .before .before .before .before .if1 .left))
 
 loop-again : tie.Need-loop-again Inv-loop μ-loop
 loop-again c =
