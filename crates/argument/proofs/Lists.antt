@@ -6,9 +6,11 @@ use mathlib.Core.Logic.{_⊎_, inl, inr, ⊎-elim}
 use Prim.Native.Nat.{ℕ, zero, suc, _+_, _*_, _^_, _<_, _≤_}
 use native.Mathlib.Nat.{eq-or-lt-of-le}
 use native.Mathlib.Omega.{arith}
-use Rattle.program.specs.Program.{Rule, keep, defeasibles}
+use Rattle.lists.specs.Lists.{keep}
+use Rattle.lists.proofs.Lists.{T-true, keep-head, keep-tail, keep-cases}
+use Rattle.literals.proofs.Tests.{true-T}
+use Rattle.program.specs.Program.{Rule, defeasibles}
 use Rattle.derivation.specs.Derivation.{HeadsBelow}
-use Rattle.derivation.proofs.Choices.{keep-cases, keep-this, keep-rest}
 use Rattle.argument.specs.Argument.{Argument, maskOf, literalOf}
 use Rattle.argument.specs.List.{isArgument, picked, listBy, argumentList, Ascends}
 use Rattle.argument.proofs.Minimal.{argument-mask-below, argument-literal-below, isArgument-sound, isArgument-complete}
@@ -23,7 +25,7 @@ module _ (test : ℕ → Bool) (base : ℕ) where
   unfolding picked
   picked-passed k zero x i = absurd (List·Memᴰ·not-nil i)
   picked-passed k (suc n) x i =
-      ⊎-elim (λ q. (k, omega arith, omega arith, q .0, q .1)) (λ q. later (picked-passed (suc k) n x q))
+      ⊎-elim (λ (e, t). (k, omega arith, omega arith, T-true (test k) t, e)) (λ q. later (picked-passed (suc k) n x q))
       (keep-cases (test k) (base + k) x (picked test base (suc k) n) i)
     where
       later : Passed (suc k) n x → Passed k (suc n) x
@@ -41,8 +43,8 @@ module _ (test : ℕ → Bool) (base : ℕ) where
       go : (k ≡ j) ⊎ (k < j) → (suc k ≤ j → List·Memᴰ (base + j) rest) → List·Memᴰ (base + j) (keep (test k) (base + k) rest)
       go (inl q) f =
           subst (λ (x : ℕ). List·Memᴰ (base + x) (keep (test k) (base + k) rest)) q
-          (keep-this (test k) (base + k) rest (ap test q ∙ t))
-      go (inr q) f = keep-rest (test k) (base + k) (base + j) rest (f q)
+          (keep-head (test k) (base + k) rest (true-T (test k) (ap test q ∙ t)))
+      go (inr q) f = keep-tail (test k) (base + k) (f q)
 
 -- what is listed: the numbers whose mask and literal pass
 module _ (test : ℕ → ℕ → Bool) where

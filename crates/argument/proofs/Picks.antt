@@ -13,12 +13,12 @@ use lib.Count.{ones, ones-step}
 use lib.ListN.{length, set}
 use lib.Seq.{sets}
 use borrow.Author.Tests.{eq-eqb, ne-eqb}
+use Rattle.lists.specs.Lists.{keep}
 use Rattle.literals.specs.Sets.{has, bit, minus, Lowest}
 use Rattle.literals.specs.Words.{joined}
 use Rattle.literals.proofs.Bits.{bit-first, bit-below}
 use Rattle.literals.proofs.Members.{has-half, has-empty, has-minus-power}
 use Rattle.literals.proofs.Words.{has-joined-low, has-joined-high}
-use Rattle.program.specs.Program.{keep}
 use Rattle.argument.specs.List.{picked, listBy}
 use Rattle.argument.specs.Listing.{membersFrom}
 

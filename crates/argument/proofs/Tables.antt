@@ -1,14 +1,16 @@
--- The rule table of a program within the limits: its bits and their rules. Assumes nothing.
+-- The tables of a program within the limits: the bits of its rules, and room for its closures. Assumes nothing.
 use mathlib.Core.Path.{_≡_, refl, sym, ap, _∙_, subst}
 use mathlib.Core.List.{List}
-use Prim.Native.Nat.{ℕ, _<_}
+use Prim.Native.Nat.{ℕ, _*_, _^_, _<_, _≤_}
 use native.Mathlib.Omega.{arith}
+use lib.ListN.{length}
+use lib.Pow.{pow-mono}
 use Rattle.program.specs.Program.{Rule, Program, bitOf}
 use Rattle.program.specs.Limits.{DefeasibleAt, Limits}
 use Rattle.program.specs.Table.{ruleOfBit, bitCount, Holds}
 use Rattle.program.proofs.Numbers.{defeasible-test, bit-of-found}
 use Rattle.derivation.proofs.Tables.{limits-shaped}
-use Rattle.argument.specs.Closures.{Numbered}
+use Rattle.argument.specs.Closures.{Numbered, Room}
 
 -- the rule with bit b
 pub record RuleOf (rules : List Rule) (b i : ℕ) : Type 0 where
@@ -32,3 +34,7 @@ module _ (p : Program) (t : List ℕ) (holds : Holds p t) where
           few = omega (arith, holds .bits-are, limits .defeasibles-limit);
           rule = λ b l. omega (arith, table-rule b l .is .there, holds .rules-are);
         }
+
+-- a table for n rules has room for fewer
+pub room-upto : (n b : ℕ) (t : List ℕ) → b ≤ n → n ≤ 16 → 2 * 2 ^ n ≤ length t → Room b t
+room-upto n b t few most long = record { few = omega arith; long = omega (arith, pow-mono {i = b} {j = n} few) }

@@ -2,8 +2,9 @@
 use mathlib.Core.Bool.{Bool, true, not, _&&_}
 use mathlib.Core.List.{List, [], _∷_, _++_}
 use Prim.Native.Nat.{ℕ, zero, suc, _+_, _*_, _^_, _<_, _≤_}
+use Rattle.lists.specs.Lists.{keep}
 use Rattle.literals.specs.Sets.{has, minus, clashBelow}
-use Rattle.program.specs.Program.{Rule, Π-mask, chosenFrom, defeasibles, defeasiblesFrom, keep}
+use Rattle.program.specs.Program.{Rule, Π-mask, chosenFrom, defeasibles, defeasiblesFrom}
 use Rattle.derivation.specs.Closure.{closure, derives, contradictory}
 
 -- Π with m without the rule that has bit b derives h

@@ -6,10 +6,13 @@ use lib.Dec.{leb}
 use lib.ListN.{length, drop}
 use lib.Seq.{sets}
 use Rattle.literals.specs.Sets.{has, choose}
+use Rattle.program.specs.Program.{Program}
+use Rattle.program.specs.Limits.{Limits}
+use Rattle.program.specs.Table.{Holds}
 use Rattle.argument.specs.declared.Listed.{Listed}
 use Rattle.argument.specs.declared.Listed.the-variants.{Count, Over}
 use Rattle.argument.specs.Fresh.{freshBy}
-use Rattle.argument.specs.List.{picked, listBy}
+use Rattle.argument.specs.List.{picked, listBy, argumentList}
 use Rattle.argument.specs.Closures.{closureAt}
 
 -- the literals of the arguments with mask m, a mask of so many rules
@@ -36,3 +39,9 @@ listed l table = choose (leb (length l) (length table)) (Count (length l)) Over
 -- "the argument table begins with the list", and with more arguments than it holds it is as it was
 abbrev pub withList : List ℕ → List ℕ → List ℕ
 withList l table = choose (leb (length l) (length table)) (l ++ drop (length l) table) table
+
+-- of the program that a rule table holds: what listing into `before` leaves and returns
+abbrev pub Lists : (table before after : List ℕ) → Listed → Type 0
+Lists table before after r =
+    ((p : Program) → Limits p → Holds p table → r ≡ listed (argumentList (p .rules)) before)
+    × ((p : Program) → Limits p → Holds p table → after ≡ withList (argumentList (p .rules)) before)

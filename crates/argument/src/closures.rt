@@ -19,10 +19,7 @@ pub fn entry(closures: &[u64], mask: u64) -> LiteralSet
     ensures { λ r. ⌜ setOf r ≡ closureAt (now (closures .entry)) mask ⌝ }
 {
     let at = (2 * mask) as usize;
-    LiteralSet {
-        lo: closures[at],
-        hi: closures[at + 1],
-    }
+    LiteralSet::of_words(closures[at], closures[at + 1])
 }
 
 // The mask is contradictory.

@@ -7,7 +7,7 @@ ghost use Rattle.program.specs.Limits.{Limits};
 ghost use Rattle.program.specs.Table.{bitCount, Holds};
 ghost use Rattle.argument.specs.List.{argumentList};
 ghost use Rattle.argument.specs.Closures.{Numbered};
-ghost use Rattle.argument.specs.Listing.{listed, withList};
+ghost use Rattle.argument.specs.Listing.{listed, withList, Lists};
 use crate::Listed;
 use program::RuleTable;
 
@@ -32,10 +32,7 @@ pub fn list(table: &RuleTable, arguments: &mut [u32]) -> Listed
 fn small(table: &RuleTable, arguments: &mut [u32]) -> Listed
     requires { ⌜ Numbered (now table) ⌝ }
     requires { ⌜ bitCount (now table) ≤ 8 ⌝ }
-    ensures result { λ r. ⌜ ((p : Program) → Limits p → Holds p (now (table .entry))
-        → r ≡ listed (argumentList (p .rules)) (now (arguments .entry))) ⌝ }
-    ensures written { λ _. ⌜ ((p : Program) → Limits p → Holds p (now (table .entry))
-        → now (arguments .exit) ≡ withList (argumentList (p .rules)) (now (arguments .entry))) ⌝ }
+    ensures { λ r. ⌜ Lists (now (table .entry)) (now (arguments .entry)) (now (arguments .exit)) r ⌝ }
 {
     let mut closures = [0u64; 512];
     crate::list(table, &mut closures, arguments)
@@ -44,10 +41,7 @@ fn small(table: &RuleTable, arguments: &mut [u32]) -> Listed
 fn middle(table: &RuleTable, arguments: &mut [u32]) -> Listed
     requires { ⌜ Numbered (now table) ⌝ }
     requires { ⌜ bitCount (now table) ≤ 12 ⌝ }
-    ensures result { λ r. ⌜ ((p : Program) → Limits p → Holds p (now (table .entry))
-        → r ≡ listed (argumentList (p .rules)) (now (arguments .entry))) ⌝ }
-    ensures written { λ _. ⌜ ((p : Program) → Limits p → Holds p (now (table .entry))
-        → now (arguments .exit) ≡ withList (argumentList (p .rules)) (now (arguments .entry))) ⌝ }
+    ensures { λ r. ⌜ Lists (now (table .entry)) (now (arguments .entry)) (now (arguments .exit)) r ⌝ }
 {
     let mut closures = [0u64; 8192];
     crate::list(table, &mut closures, arguments)
@@ -57,10 +51,7 @@ fn middle(table: &RuleTable, arguments: &mut [u32]) -> Listed
 // frame would otherwise have this table's megabyte too.
 fn large(table: &RuleTable, arguments: &mut [u32], bits: u64) -> Listed
     requires { ⌜ Numbered (now table) ⌝ }
-    ensures result { λ r. ⌜ ((p : Program) → Limits p → Holds p (now (table .entry))
-        → r ≡ listed (argumentList (p .rules)) (now (arguments .entry))) ⌝ }
-    ensures written { λ _. ⌜ ((p : Program) → Limits p → Holds p (now (table .entry))
-        → now (arguments .exit) ≡ withList (argumentList (p .rules)) (now (arguments .entry))) ⌝ }
+    ensures { λ r. ⌜ Lists (now (table .entry)) (now (arguments .entry)) (now (arguments .exit)) r ⌝ }
 {
     if 16 < bits {
         return match large(table, arguments, bits - 1) {

@@ -10,7 +10,7 @@ ghost use Rattle.program.specs.Table.{Holds, Shaped};
 ghost use Rattle.derivation.specs.Closure.{closure};
 ghost use Rattle.defeat.specs.Exclusions.{excludedBy, Excluded, Conclusions};
 ghost use Rattle.defeat.specs.Steps.{RowOf};
-use crate::numbers;
+use argument::numbers;
 use literals::LiteralSet;
 use program::RuleTable;
 
@@ -56,10 +56,7 @@ pub fn entry(exclusions: &[u64; 256], literal: u64) -> LiteralSet
     ensures { λ r. ⌜ setOf r ≡ excludedBy (now (exclusions .entry)) literal ⌝ }
 {
     let at = (2 * literal) as usize;
-    LiteralSet {
-        lo: exclusions[at],
-        hi: exclusions[at + 1],
-    }
+    LiteralSet::of_words(exclusions[at], exclusions[at + 1])
 }
 
 // The literals of u that exclude a. What a alone derives is the start for all of them.

@@ -2,5 +2,4 @@
 
 pub mod defeaters;
 pub mod exclusions;
-pub mod numbers;
 pub mod preference;

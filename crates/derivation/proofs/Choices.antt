@@ -8,24 +8,13 @@ use native.Mathlib.Nat.{le-refl, le-trans}
 use native.Mathlib.Decide.{ℕ-discrete, decLt}
 use native.Mathlib.Omega.{arith}
 use lib.ListN.{length, take}
+use Rattle.lists.specs.Lists.{keep}
+use Rattle.lists.proofs.Lists.{T-true, keep-head, keep-tail, keep-cases}
 use Rattle.literals.specs.Sets.{has}
-use Rattle.literals.proofs.Tests.{or-right}
+use Rattle.literals.proofs.Tests.{true-T, or-right}
 use Rattle.literals.proofs.Members.{has-empty}
 use Rattle.program.specs.Program.{Kind, strict, defeasible, Rule, isDefeasible, nextBit, defeasiblesFrom, defeasibles, bitOf}
-use Rattle.program.specs.Program.{ruleAt, keep, chosenFrom, Π-with, Π-mask, Π}
-
--- what is kept of a list
-pub keep-cases : {A : Type 0} (t : Bool) (x y : A) (l : List A) → List·Memᴰ y (keep t x l) → ((t ≡ true) × (y ≡ x)) ⊎ List·Memᴰ y l
-keep-cases true x y l i = ⊎-elim (λ e. inl (refl, e)) (λ j. inr j) (List·Memᴰ·cases-cons i)
-keep-cases false x y l i = inr i
-
-pub keep-this : {A : Type 0} (t : Bool) (x : A) (l : List A) → t ≡ true → List·Memᴰ x (keep t x l)
-keep-this true x l e = List·Memᴰ·head refl
-keep-this false x l e = absurd (false≢true e)
-
-pub keep-rest : {A : Type 0} (t : Bool) (x y : A) (l : List A) → List·Memᴰ y l → List·Memᴰ y (keep t x l)
-keep-rest true x y l i = List·Memᴰ·tail i
-keep-rest false x y l i = i
+use Rattle.program.specs.Program.{ruleAt, chosenFrom, Π-with, Π-mask, Π}
 
 -- the bits ascend, and stay below the number of defeasible rules
 next-le : (k : Kind) (n : ℕ) → n ≤ nextBit k n
@@ -83,7 +72,7 @@ chosen-cases : (f : ℕ → Bool) (n : ℕ) (l : List Rule) (r : Rule) → List�
 unfolding chosenFrom defeasiblesFrom
 chosen-cases f n [] r i = absurd (List·Memᴰ·not-nil i)
 chosen-cases f n (q ∷ l) r i =
-    ⊎-elim (λ (t, e). here (q .kind) refl t e)
+    ⊎-elim (λ (e, t). here (q .kind) refl (T-true (not (isDefeasible (q .kind)) || f n) t) e)
     (λ j. ⊎-elim (λ s. inl (List·Memᴰ·tail (s .0), s .1)) (λ c. inr (later c)) (chosen-cases f (nextBit (q .kind) n) l r j))
     (keep-cases (not (isDefeasible (q .kind)) || f n) q r (chosenFrom f (nextBit (q .kind) n) l) i)
   where
@@ -107,7 +96,7 @@ unfolding chosenFrom
 chosen-strict f n [] r i d = absurd (List·Memᴰ·not-nil i)
 chosen-strict f n (q ∷ l) r i d =
     ⊎-elim here
-    (λ j. keep-rest (not (isDefeasible (q .kind)) || f n) q r rest (chosen-strict f (nextBit (q .kind) n) l r j d))
+    (λ j. keep-tail (not (isDefeasible (q .kind)) || f n) q (chosen-strict f (nextBit (q .kind) n) l r j d))
     (List·Memᴰ·cases-cons i)
   where
     rest : List Rule
@@ -116,17 +105,19 @@ chosen-strict f n (q ∷ l) r i d =
     here : r ≡ q → List·Memᴰ r (keep (not (isDefeasible (q .kind)) || f n) q rest)
     here p =
         let kind : isDefeasible (q .kind) ≡ false = ap (λ (x : Rule). isDefeasible (x .kind)) (sym p) ∙ d in
-        Memᴰ·cast p (keep-this (not (isDefeasible (q .kind)) || f n) q rest (ap (λ (t : Bool). not t || f n) kind))
+        Memᴰ·cast p
+        (keep-head (not (isDefeasible (q .kind)) || f n) q rest
+        (true-T (not (isDefeasible (q .kind)) || f n) (ap (λ (t : Bool). not t || f n) kind)))
 
 chosen-at : (f : ℕ → Bool) (n : ℕ) (l : List Rule) (i : ℕ) → i < length l → f (defeasiblesFrom n (take i l)) ≡ true
     → List·Memᴰ (ruleAt l i) (chosenFrom f n l)
 unfolding chosenFrom defeasiblesFrom
 chosen-at f n [] i h c = absurd (omega arith)
 chosen-at f n (q ∷ l) zero h c =
-    keep-this (not (isDefeasible (q .kind)) || f n) q (chosenFrom f (nextBit (q .kind) n) l)
-    (or-right (not (isDefeasible (q .kind))) (f n) c)
+    keep-head (not (isDefeasible (q .kind)) || f n) q (chosenFrom f (nextBit (q .kind) n) l)
+    (true-T (not (isDefeasible (q .kind)) || f n) (or-right (not (isDefeasible (q .kind))) (f n) c))
 chosen-at f n (q ∷ l) (suc i) h c =
-    keep-rest (not (isDefeasible (q .kind)) || f n) q (ruleAt l i) (chosenFrom f (nextBit (q .kind) n) l)
+    keep-tail (not (isDefeasible (q .kind)) || f n) q
     (chosen-at f (nextBit (q .kind) n) l i (omega arith) c)
 
 chosen-ext : (f g : ℕ → Bool) (n : ℕ) (l : List Rule) → ((b : ℕ) → b < defeasiblesFrom n l → f b ≡ g b)

@@ -9,9 +9,10 @@ use lib.ListN.{length, take, drop, drop-of-length-le}
 use lib.Seq.{drop-cons}
 use lib.Bits.{bitAnd}
 use borrow.Author.Tests.{eq-eqb, ne-eqb}
+use Rattle.lists.specs.Lists.{keep}
 use Rattle.literals.specs.Sets.{has, choose, insert, hasAll, within, clash}
 use Rattle.literals.proofs.Lists.{hasAll-within}
-use Rattle.program.specs.Program.{Rule, fact, isDefeasible, nextBit, defeasiblesFrom, bitOf, ruleAt, keep, chosenFrom, Π-mask}
+use Rattle.program.specs.Program.{Rule, fact, isDefeasible, nextBit, defeasiblesFrom, bitOf, ruleAt, chosenFrom, Π-mask}
 use Rattle.program.specs.Table.{headAt, bodyAt, needAt, Row}
 use Rattle.derivation.specs.Closure.{fire, round, rounds, closure, excludes}
 use Rattle.derivation.specs.Steps.{fireChosen}

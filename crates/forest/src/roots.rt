@@ -10,7 +10,7 @@ ghost use Rattle.tree.specs.Tables.{columns};
 ghost use Rattle.tree.specs.Steps.{Prepared, testsIn};
 ghost use Rattle.tree.specs.Roots.{RootsReady, FirstFor, TreesBuilt, ForestBuilt};
 use crate::turns::supporter;
-use defeat::numbers::literal_of;
+use argument::numbers::literal_of;
 use program::RuleTable;
 
 // The next free node number, and whether some root is marked U.

@@ -1,18 +1,17 @@
 // Supporter and objector take turns down every line. Each step writes the tree of one argument into four lent tables, in
 // preorder, and marks it.
-ghost use mathlib.Core.Path.{_≡_};
 ghost use Prim.Native.Nat.{_<_};
-ghost use lib.ListN.{getD};
-ghost use Rattle.tree.specs.Tables.{columns, Built};
-ghost use Rattle.tree.specs.Steps.{lineOf, treeEntries, Prepared, testsIn, Ready};
-use defeat::numbers::mask_of;
+ghost use Rattle.tree.specs.Tables.{columns};
+ghost use Rattle.tree.specs.Steps.{Ready, Leaves};
+use argument::numbers::mask_of;
 use program::RuleTable;
 use tree::candidates::first_reply;
 use tree::nodes::enter;
 use tree::nodes::settled;
 
 // Writes the tree of a supporter's argument, number j of the list, from node number `at` on. Returns the next free number,
-// or one past the limit. The line is that of the parent; `supports` and `objections` are the masks of each side on it.
+// or one past the limit. The line is that of the parent; `own` and `other` are the masks of the step's own side on it and of
+// the other side.
 pub fn supporter(
     table: &RuleTable,
     closures: &[u64],
@@ -21,8 +20,8 @@ pub fn supporter(
     count: usize,
     line: &mut [u32],
     depth: usize,
-    supports: u64,
-    objections: u64,
+    own: u64,
+    other: u64,
     j: usize,
     parent: usize,
     kind: u8,
@@ -33,21 +32,19 @@ pub fn supporter(
     kinds: &mut [u8],
     marks: &mut [u8],
 ) -> usize
-    requires { ⌜ Ready (now table) (now closures) (now exclusions) (now arguments) count (now line) depth supports objections j
+    requires { ⌜ Ready (now table) (now closures) (now exclusions) (now arguments) count (now line) depth own other j
         parent kind at limit (columns (now indexes) (now parents) (now kinds) (now marks)) ⌝ }
-    ensures built { λ r. ⌜ ((w : Prepared (now (table .entry)) (now (closures .entry)) (now (exclusions .entry)) (now (arguments .entry)) count)
-        → Built (treeEntries (testsIn w) (lineOf (now (line .entry)) depth) (getD (now (arguments .entry)) j 0) kind at parent)
-        at limit r
+    ensures { λ r. ⌜ Leaves (now (table .entry)) (now (closures .entry)) (now (exclusions .entry)) (now (arguments .entry)) count
+        (now (line .entry)) (now (line .exit)) depth j parent kind at limit r
         (columns (now (indexes .entry)) (now (parents .entry)) (now (kinds .entry)) (now (marks .entry)))
-        (columns (now (indexes .exit)) (now (parents .exit)) (now (kinds .exit)) (now (marks .exit)))) ⌝ }
-    ensures line { λ _. ⌜ lineOf (now (line .exit)) depth ≡ lineOf (now (line .entry)) depth ⌝ }
+        (columns (now (indexes .exit)) (now (parents .exit)) (now (kinds .exit)) (now (marks .exit))) ⌝ }
 {
     if limit <= at {
         return limit + 1;
     }
     let x = arguments[j];
     enter(line, depth, x, j, parent, kind, at, indexes, parents, kinds);
-    let own = supports | mask_of(x);
+    let supports = own | mask_of(x);
     let mut mark = 1u8;
     let mut next = at + 1;
     let mut start = 0;
@@ -60,7 +57,7 @@ pub fn supporter(
             count,
             line,
             depth + 1,
-            objections,
+            other,
             kind,
             start,
         );
@@ -76,8 +73,8 @@ pub fn supporter(
             count,
             line,
             depth + 1,
-            own,
-            objections,
+            other,
+            supports,
             objection.index,
             at,
             objection.kind,
@@ -106,8 +103,8 @@ pub fn objector(
     count: usize,
     line: &mut [u32],
     depth: usize,
-    supports: u64,
-    objections: u64,
+    own: u64,
+    other: u64,
     j: usize,
     parent: usize,
     kind: u8,
@@ -118,21 +115,19 @@ pub fn objector(
     kinds: &mut [u8],
     marks: &mut [u8],
 ) -> usize
-    requires { ⌜ Ready (now table) (now closures) (now exclusions) (now arguments) count (now line) depth objections supports j
+    requires { ⌜ Ready (now table) (now closures) (now exclusions) (now arguments) count (now line) depth own other j
         parent kind at limit (columns (now indexes) (now parents) (now kinds) (now marks)) ⌝ }
-    ensures built { λ r. ⌜ ((w : Prepared (now (table .entry)) (now (closures .entry)) (now (exclusions .entry)) (now (arguments .entry)) count)
-        → Built (treeEntries (testsIn w) (lineOf (now (line .entry)) depth) (getD (now (arguments .entry)) j 0) kind at parent)
-        at limit r
+    ensures { λ r. ⌜ Leaves (now (table .entry)) (now (closures .entry)) (now (exclusions .entry)) (now (arguments .entry)) count
+        (now (line .entry)) (now (line .exit)) depth j parent kind at limit r
         (columns (now (indexes .entry)) (now (parents .entry)) (now (kinds .entry)) (now (marks .entry)))
-        (columns (now (indexes .exit)) (now (parents .exit)) (now (kinds .exit)) (now (marks .exit)))) ⌝ }
-    ensures line { λ _. ⌜ lineOf (now (line .exit)) depth ≡ lineOf (now (line .entry)) depth ⌝ }
+        (columns (now (indexes .exit)) (now (parents .exit)) (now (kinds .exit)) (now (marks .exit))) ⌝ }
 {
     if limit <= at {
         return limit + 1;
     }
     let x = arguments[j];
     enter(line, depth, x, j, parent, kind, at, indexes, parents, kinds);
-    let own = objections | mask_of(x);
+    let objections = own | mask_of(x);
     let mut mark = 1u8;
     let mut next = at + 1;
     let mut start = 0;
@@ -145,7 +140,7 @@ pub fn objector(
             count,
             line,
             depth + 1,
-            supports,
+            other,
             kind,
             start,
         );
@@ -161,8 +156,8 @@ pub fn objector(
             count,
             line,
             depth + 1,
-            supports,
-            own,
+            other,
+            objections,
             support.index,
             at,
             support.kind,

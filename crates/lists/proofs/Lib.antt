@@ -1,5 +1,6 @@
 -- The laws of lists and tests.
 pub mod Lists
+pub mod Scans
 pub mod Decides
 pub mod Locals
 pub mod LocalArrays

@@ -6,7 +6,7 @@ ghost use lib.Dec.{eqb};
 ghost use lib.Count.{ones};
 ghost use Rattle.literals.specs.Sets.{has as «hasOf», insert as «insertOf», union as «unionOf»};
 ghost use Rattle.literals.specs.Sets.{minus as «minusOf», within as «withinOf», meets as «meetsOf», clash};
-ghost use Rattle.literals.specs.Words.{setOf};
+ghost use Rattle.literals.specs.Words.{joined, setOf};
 
 pub mod masks;
 
@@ -22,6 +22,13 @@ impl LiteralSet {
         ensures { λ r. ⌜ setOf r ≡ 0 ⌝ }
     {
         LiteralSet { lo: 0, hi: 0 }
+    }
+
+    // The set that two words hold.
+    pub fn of_words(lo: u64, hi: u64) -> LiteralSet
+        ensures { λ r. ⌜ setOf r ≡ joined hi lo ⌝ }
+    {
+        LiteralSet { lo: lo, hi: hi }
     }
 
     // The set with one literal more.

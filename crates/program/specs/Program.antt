@@ -5,6 +5,7 @@ use mathlib.Core.List.{List, [], _∷_}
 use Prim.Native.Nat.{ℕ, zero, suc, _^_}
 use lib.ListN.{getD, take}
 use lib.Dec.{eqb}
+use Rattle.lists.specs.Lists.{keep}
 use Rattle.literals.specs.Sets.{has, choose, insert}
 
 -- "a kind byte (0 strict, 1 defeasible)"
@@ -55,10 +56,6 @@ ruleAt l i = getD l i (fact 0)
 -- "A set of defeasible rules is its mask, the sum of 2^bit": rule i is in the set with mask m
 abbrev pub inMask : List Rule → ℕ → ℕ → Bool
 inMask l m i = isDefeasible (ruleAt l i .kind) && has m (bitOf l i)
-
-abbrev pub keep : {A : Type 0} → Bool → A → List A → List A
-keep true r l = r ∷ l
-keep false r l = l
 
 -- the strict rules, and the defeasible ones whose bit is chosen; the first defeasible rule has bit b
 unfoldable pub chosenFrom : (ℕ → Bool) → ℕ → List Rule → List Rule

@@ -21,10 +21,7 @@ pub fn body(table: &RuleTable, i: u64) -> LiteralSet
     requires { ⌜ i < 96 ⌝ }
     ensures { λ r. ⌜ setOf r ≡ bodyAt (now (table .entry)) i ⌝ }
 {
-    LiteralSet {
-        lo: table[(4 * i + 1) as usize],
-        hi: table[(4 * i + 2) as usize],
-    }
+    LiteralSet::of_words(table[(4 * i + 1) as usize], table[(4 * i + 2) as usize])
 }
 
 // The bits that rule i needs chosen: none if it is strict, else its own.

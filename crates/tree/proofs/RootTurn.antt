@@ -2,7 +2,7 @@
 use mathlib.Core.Path.{_≡_, refl, _∙_}
 use mathlib.Core.Bool.{Bool, false, _||_}
 use mathlib.Core.List.{List, []}
-use Prim.Native.Nat.{ℕ, _+_, _≤_, _<_}
+use Prim.Native.Nat.{ℕ, _+_, _-_, _^_, _≤_, _<_}
 use native.Mathlib.Omega.{arith}
 use lib.ListN.{length, getD}
 use lib.Dec.{eqb}
@@ -11,8 +11,8 @@ use Rattle.tree.specs.Tables.{Columns, Built}
 use Rattle.tree.specs.Steps.{treeEntries, Prepared, testsIn, Ready}
 use Rattle.tree.specs.Roots.{RootsReady, FirstFor, TreesBuilt}
 use Rattle.tree.proofs.Growing.{tree-room}
-use Rattle.tree.proofs.Listings.{prepared-listing}
-use Rattle.tree.proofs.Turn.{Long, long-trans, hold-long}
+use Rattle.tree.proofs.Listings.{prepared-count, prepared-listing}
+use Rattle.tree.proofs.Turn.{Long, Lengths, long-kept, long-trans, hold-long}
 use Rattle.tree.proofs.Trees.{Rooting, rooting-start, rooting-end, rooting-over, rooting-step}
 
 -- The arguments before `start` are done, the tables are t, `next` is the next free number. line₀ and t₀ are the tables at
@@ -49,6 +49,13 @@ module _ {table closures exclusions arguments : List ℕ} {count h : ℕ} {line�
   root-turn-end le w = rooting-end (testsIn w) (prepared-listing w) h at limit t₀ (T .rooting w) f le
 
   module _ (inside : j < count) where
+    -- the arguments that are left are fewer
+    pub root-turn-less : count - (j + 1) < count - start
+    root-turn-less = omega (arith, f .low)
+
+    pub root-turn-index : j < 2 ^ 32
+    root-turn-index = omega (arith, prepared-count (T .ready .prepared))
+
     -- a root's step: no line is before it, and its parent is its own number
     pub root-ready : Ready table closures exclusions arguments count line 0 0 0 j next 0 next limit t
     root-ready = record {
@@ -72,18 +79,23 @@ module _ {table closures exclusions arguments : List ℕ} {count h : ℕ} {line�
       root-turn-over lt w =
           rooting-over (testsIn w) (prepared-listing w) h at limit t₀ (T .rooting w) f inside end after (built w) lt
 
-      pub root-turn-room : end ≤ limit → next < end
+      root-turn-room : end ≤ limit → next < end
       root-turn-room le =
           let w = T .ready .prepared in
           tree-room (testsIn w) [] (getD arguments j 0) 0 next next (built w) le
 
-      pub root-turn-step : (line′ : List ℕ) (found′ : Bool) → end ≤ limit → length line′ ≡ length line → Long after t
+      -- the root's mark can be read
+      pub root-turn-mark : end ≤ limit → length (after .marks) ≡ length (t .marks) → next < length (after .marks)
+      root-turn-mark le e =
+          omega (arith, root-turn-room le, hold-long limit (T .tables-long) (T .ready .tables-hold) .marks-hold)
+
+      pub root-turn-step : (line′ : List ℕ) (found′ : Bool) {R : Type 0} → end ≤ limit → length line′ ≡ length line → Lengths after t R
           → found′ ≡ (found || eqb (getD (after .marks) next 0) 1)
           → RootTurn table closures exclusions arguments count h line₀ at limit t₀ line′ after found′ end (j + 1)
       root-turn-step line′ found′ le nl lt e = record {
         ready = T .ready;
         line-long = nl ∙ T .line-long;
-        tables-long = long-trans lt (T .tables-long);
+        tables-long = long-trans (long-kept after t lt) (T .tables-long);
         high = le;
         start-in = omega arith;
         rooting = λ w. rw e
@@ -94,12 +106,12 @@ module _ {table closures exclusions arguments : List ℕ} {count h : ℕ} {line�
 -- the same tables after some trees were written
 pub roots-moved : {table closures exclusions arguments : List ℕ} {count : ℕ} {line : List ℕ} {at limit : ℕ} {t : Columns}
     → RootsReady table closures exclusions arguments count line at limit t → (line′ : List ℕ) (next : ℕ) (t′ : Columns)
-    → next ≤ limit → length line′ ≡ length line → Long t′ t
+    {R : Type 0} → next ≤ limit → length line′ ≡ length line → Lengths t′ t R
     → RootsReady table closures exclusions arguments count line′ next limit t′
-roots-moved {limit = limit} r line′ next t′ le n h = record {
+roots-moved {limit = limit} {t = t} r line′ next t′ le n h = record {
   prepared = r .prepared;
   below = le;
   budget = r .budget;
   line-holds = omega (arith, n, r .line-holds);
-  tables-hold = hold-long limit h (r .tables-hold);
+  tables-hold = hold-long limit (long-kept t′ t h) (r .tables-hold);
 }

@@ -2,7 +2,7 @@
 -- nothing.
 use mathlib.Core.Path.{_≡_, refl, sym, ap, _∙_}
 use mathlib.Core.List.{List, _∷_}
-use Prim.Native.Nat.{ℕ, suc, _+_, _≤_, _<_}
+use Prim.Native.Nat.{ℕ, suc, _+_, _-_, _^_, _≤_, _<_}
 use native.Mathlib.Omega.{arith}
 use lib.ListN.{length, getD, length-set}
 use Rattle.literals.specs.Sets.{union}
@@ -12,7 +12,7 @@ use Rattle.tree.specs.Forest.{allDefeated, markOf, replies}
 use Rattle.tree.specs.Entries.{Entry, preorder}
 use Rattle.tree.specs.OfLiteral.{indexIn}
 use Rattle.tree.specs.Tables.{Columns, columns, Hold, Built}
-use Rattle.tree.specs.Steps.{lineOf, treeEntries, settledBy, Prepared, testsIn, Ready, Asked, FirstReply, Enters, Entered}
+use Rattle.tree.specs.Steps.{lineOf, treeEntries, settledBy, Prepared, testsIn, Ready, Leaves, Asked, FirstReply, Enters, Entered}
 use Rattle.tree.proofs.Progress.{opened, closed}
 use Rattle.tree.proofs.Growing.{Going, going-start, going-end, going-over, going-step, tree-room, tree-none, tree-over, tree-end}
 use Rattle.tree.proofs.Steps.{line-same, line-more, line-less, ready-asked, ready-reply}
@@ -24,6 +24,21 @@ pub record Long (t u : Columns) : Type 0 where
   pub parents-long : length (t .parents) ≡ length (u .parents)
   pub kinds-long : length (t .kinds) ≡ length (u .kinds)
   pub marks-long : length (t .marks) ≡ length (u .marks)
+
+-- the lengths as a call gives them, one for each table that it was lent
+abbrev pub Lengths : Columns → Columns → Type 0 → Type 0
+Lengths t u R =
+    (length (t .arguments) ≡ length (u .arguments))
+    × ((length (t .parents) ≡ length (u .parents))
+    × ((length (t .kinds) ≡ length (u .kinds)) × ((length (t .marks) ≡ length (u .marks)) × R)))
+
+pub long-kept : (t u : Columns) {R : Type 0} → Lengths t u R → Long t u
+long-kept t u e = record {
+  arguments-long = e .0;
+  parents-long = e .1 .0;
+  kinds-long = e .1 .1 .0;
+  marks-long = e .1 .1 .1 .0;
+}
 
 pub long-trans : {t u v : Columns} → Long t u → Long u v → Long t v
 long-trans a b = record {
@@ -89,14 +104,13 @@ ready-moved {limit = limit} r e n h = record {
 module _ {table closures exclusions arguments : List ℕ} {count : ℕ} {line : List ℕ}
     {depth own other j parent kind at limit : ℕ} {t : Columns}
     (ready : Ready table closures exclusions arguments count line depth own other j parent kind at limit t) where
-  abbrev World : Type 0
-  World = Prepared table closures exclusions arguments count
-
   -- no number is left
-  pub turn-none : limit ≤ at → (w : World)
-      → Built (treeEntries (testsIn w) (lineOf line depth) (getD arguments j 0) kind at parent) at limit (limit + 1) t t
-  turn-none h w =
-      tree-none (testsIn w) (prepared-listing w) (lineOf line depth) j parent kind at limit (ready .argument-in) t h
+  pub turn-none : limit ≤ at
+      → Leaves table closures exclusions arguments count line line depth j parent kind at limit (limit + 1) t t
+  turn-none h = (
+    λ w. tree-none (testsIn w) (prepared-listing w) (lineOf line depth) j parent kind at limit (ready .argument-in) t h,
+    refl,
+  )
 
   module _ (room : at < limit) where
     line-room : depth < length line
@@ -119,7 +133,7 @@ module _ {table closures exclusions arguments : List ℕ} {count : ℕ} {line : 
       abbrev t′ : Columns
       t′ = columns indexes′ parents′ kinds′ (t .marks)
 
-      pub entered-line : lineOf line′ depth ≡ lineOf line depth
+      entered-line : lineOf line′ depth ≡ lineOf line depth
       entered-line = ap (λ (l : List ℕ). lineOf l depth) (e .line-is) ∙ line-same line depth depth x (omega arith)
 
       entered-long : Long t′ t
@@ -156,31 +170,13 @@ module _ {table closures exclusions arguments : List ℕ} {count : ℕ} {line : 
         going = λ w. going-start (testsIn w) (prepared-listing w) (x ∷ lineOf line′ depth) at limit t′ room;
       }
 
-      -- ---- it ends: what is known of the trees below is said of the whole
-      module _ (ex : x ≡ getD arguments j 0) (w : World) where
-        abbrev l : List ℕ
-        l = getD arguments j 0 ∷ lineOf line depth
-
-        same-line : x ∷ lineOf line′ depth ≡ l
-        same-line = let a = entered-line in cc
-
-        pub turn-over : (end : ℕ) (after : Columns)
-            → Built (belowEntries (testsIn w) (x ∷ lineOf line′ depth) at) (suc at) limit end t′ after → limit < end
-            → Built (treeEntries (testsIn w) (lineOf line depth) (getD arguments j 0) kind at parent) at limit end t after
-        turn-over end after b h =
-            tree-over (testsIn w) (prepared-listing w) (lineOf line depth) j parent kind at limit (ready .argument-in) t end after
-            (rw (same-line, entered-tables) at b) room h
-
-        pub turn-end : (mark next : ℕ) (after : Columns)
-            → Built (belowEntries (testsIn w) (x ∷ lineOf line′ depth) at) (suc at) limit next t′ after
-            → mark ≡ markOf (allDefeated (replies (testsIn w) (x ∷ lineOf line′ depth))) → next ≤ limit
-            → Built (treeEntries (testsIn w) (lineOf line depth) (getD arguments j 0) kind at parent) at limit next t
-            (closed at mark after)
-        turn-end mark next after b m h =
-            tree-end (testsIn w) (prepared-listing w) (lineOf line depth) j parent kind at limit (ready .argument-in) t mark next after
-            (rw (same-line, entered-tables) at b) (rw same-line at m) h
-
 -- ---- a step goes on
+
+-- the first candidate that is a reply from `start` on, as a search for it leaves it
+abbrev pub Found : (table closures exclusions arguments : List ℕ) (count : ℕ) (l : List ℕ) (start i k : ℕ) → Type 0
+Found table closures exclusions arguments count l start i k =
+    ((start ≤ i) × (i ≤ count))
+    × ((w : Prepared table closures exclusions arguments count) → FirstReply (testsIn w) l arguments count start i k)
 
 module _ {table closures exclusions arguments : List ℕ} {count : ℕ} {line₀ : List ℕ}
     {depth own other j parent kind at limit : ℕ} {t₀ : Columns} {x joined : ℕ}
@@ -191,74 +187,131 @@ module _ {table closures exclusions arguments : List ℕ} {count : ℕ} {line₀
     now-line = T .line-is ∙ ap (λ (y : ℕ). y ∷ lineOf line₀ depth) (T .argument-is)
 
     -- the line up to the parent stays
-    pub turn-line : (line′ : List ℕ) → lineOf line′ (depth + 1) ≡ lineOf line (depth + 1) → lineOf line′ depth ≡ lineOf line₀ depth
+    turn-line : (line′ : List ℕ) → lineOf line′ (depth + 1) ≡ lineOf line (depth + 1) → lineOf line′ depth ≡ lineOf line₀ depth
     turn-line line′ e = line-less line′ line₀ depth x (e ∙ T .line-is)
 
-    pub turn-asked : Asked table closures exclusions arguments count line (depth + 1) other kind
+    turn-holds : Hold limit t
+    turn-holds = hold-long limit (T .tables-long) (T .ready .tables-hold)
+
+    pub turn-asked : Asked table closures exclusions arguments count line (depth + 1) other kind × (start ≤ count)
     turn-asked =
         let d = T .ready .deep in
         let h = T .ready .line-holds in
-        ready-asked (T .ready) line now-line (omega (arith, T .line-long, T .room))
+        (ready-asked (T .ready) line now-line (omega (arith, T .line-long, T .room)), T .start-in)
 
-    module _ {i k : ℕ} (low : start ≤ i) (high : i ≤ count)
-        (first : (w : Prepared table closures exclusions arguments count)
-        → FirstReply (testsIn w) (lineOf line (depth + 1)) arguments count start i k) where
+    -- the node's own mark has its place
+    pub turn-marks : at < length (t .marks)
+    turn-marks = omega (arith, T .room, turn-holds .marks-hold)
+
+    module _ {i k : ℕ} (found : Found table closures exclusions arguments count (lineOf line (depth + 1)) start i k) where
       first-in : (w : Prepared table closures exclusions arguments count)
           → FirstReply (testsIn w) (x ∷ lineOf line₀ depth) arguments count start i k
-      first-in w = rw (T .line-is) at (first w)
+      first-in w = rw (T .line-is) at (found .1 w)
 
       -- no candidate is left
-      pub turn-last : count ≤ i → (w : Prepared table closures exclusions arguments count)
+      turn-last : count ≤ i → (w : Prepared table closures exclusions arguments count)
           → Built (belowEntries (testsIn w) (x ∷ lineOf line₀ depth) at) (suc at) limit next t₀ t
           × (mark ≡ markOf (allDefeated (replies (testsIn w) (x ∷ lineOf line₀ depth))))
       turn-last h w =
-          going-end (testsIn w) (prepared-listing w) (x ∷ lineOf line₀ depth) at limit t₀ (T .going w) low high (first-in w) h
+          going-end (testsIn w) (prepared-listing w) (x ∷ lineOf line₀ depth) at limit t₀ (T .going w) (found .0 .0) (found .0 .1)
+          (first-in w) h
 
       module _ (inside : i < count) where
-        pub turn-ready : Ready table closures exclusions arguments count line (depth + 1) other joined i at k next limit t
-        turn-ready =
-            let e : joined ≡ union own (maskOf (getD arguments j 0)) = T .joined-is ∙ ap (λ (y : ℕ). union own (maskOf y)) (T .argument-is) in
-            rw e
-            (ready-reply (T .ready) line now-line start i k next t first inside (T .low) (T .high)
-            (let h = T .ready .line-holds in omega (arith, T .line-long))
-            (hold-long limit (T .tables-long) (T .ready .tables-hold)))
+        -- the other side's step is asked less: m is what this one has left
+        pub turn-ready : {m : ℕ} → limit - at ≡ m
+            → (limit - next < m)
+            × Ready table closures exclusions arguments count line (depth + 1) other joined i at k next limit t
+        turn-ready left =
+            let e : joined ≡ union own (maskOf (getD arguments j 0)) = T .joined-is ∙ ap (λ (y : ℕ). union own (maskOf y)) (T .argument-is) in (
+              omega (arith, T .room, T .low, T .high),
+              rw e
+                  (ready-reply (T .ready) line now-line start i k next t (found .1) inside (T .low) (T .high)
+                  (let h = T .ready .line-holds in omega (arith, T .line-long))
+                  turn-holds),
+            )
 
-        module _ (end : ℕ) (after : Columns)
-            (built : (w : Prepared table closures exclusions arguments count)
-            → Built (treeEntries (testsIn w) (lineOf line (depth + 1)) (getD arguments i 0) k next at) next limit end t after) where
+        -- the candidates that are left are fewer
+        pub turn-less : count - (i + 1) < count - start
+        turn-less = let l = found .0 .0 in omega arith
+
+        pub turn-index : i < 2 ^ 32
+        turn-index = omega (arith, prepared-count (T .ready .prepared))
+
+        -- the other side's step on it is done
+        module _ {end : ℕ} (line′ : List ℕ) {t′ : Columns}
+            (below : Leaves table closures exclusions arguments count line line′ (depth + 1) i at k next limit end t t′) where
           built-in : (w : Prepared table closures exclusions arguments count)
-              → Built (treeEntries (testsIn w) (x ∷ lineOf line₀ depth) (getD arguments i 0) k next at) next limit end t after
-          built-in w = rw (T .line-is) at (built w)
+              → Built (treeEntries (testsIn w) (x ∷ lineOf line₀ depth) (getD arguments i 0) k next at) next limit end t t′
+          built-in w = rw (T .line-is) at (below .0 w)
 
           -- a reply's tree does not fit
-          pub turn-full : limit < end → (w : Prepared table closures exclusions arguments count)
-              → Built (belowEntries (testsIn w) (x ∷ lineOf line₀ depth) at) (suc at) limit end t₀ after
+          turn-full : limit < end → (w : Prepared table closures exclusions arguments count)
+              → Built (belowEntries (testsIn w) (x ∷ lineOf line₀ depth) at) (suc at) limit end t₀ t′
           turn-full h w =
-              going-over (testsIn w) (prepared-listing w) (x ∷ lineOf line₀ depth) at limit t₀ (T .going w) low high (first-in w) inside
-              end after (built-in w) h
+              going-over (testsIn w) (prepared-listing w) (x ∷ lineOf line₀ depth) at limit t₀ (T .going w) (found .0 .0) (found .0 .1)
+              (first-in w) inside end t′ (built-in w) h
 
           -- a reply's tree is written, and has a number
-          pub turn-room : end ≤ limit → next < end
+          turn-room : end ≤ limit → next < end
           turn-room h =
               let w = T .ready .prepared in
               tree-room (testsIn w) (x ∷ lineOf line₀ depth) (getD arguments i 0) k next at (built-in w) h
 
-          pub turn-step : (line′ : List ℕ) (mark′ : ℕ) → end ≤ limit → lineOf line′ (depth + 1) ≡ lineOf line (depth + 1)
-              → length line′ ≡ length line → Long after t → mark′ ≡ settledBy mark (getD (after .marks) next 0)
-              → Turn table closures exclusions arguments count line₀ depth own other j parent kind at limit t₀ x joined line′ after
+          -- so its mark can be read
+          pub turn-mark : end ≤ limit → length (t′ .marks) ≡ length (t .marks) → next < length (t′ .marks)
+          turn-mark h e = omega (arith, turn-room h, turn-holds .marks-hold)
+
+          pub turn-step : {mark′ : ℕ} {R : Type 0} → end ≤ limit → length line′ ≡ length line → Lengths t′ t R
+              → mark′ ≡ settledBy mark (getD (t′ .marks) next 0)
+              → Turn table closures exclusions arguments count line₀ depth own other j parent kind at limit t₀ x joined line′ t′
               mark′ end (i + 1)
-          turn-step line′ mark′ h el nl lt em = record {
+          turn-step h nl lengths em = record {
             ready = T .ready;
             argument-is = T .argument-is;
             joined-is = T .joined-is;
             room = T .room;
-            line-is = el ∙ T .line-is;
+            line-is = below .1 ∙ T .line-is;
             line-long = nl ∙ T .line-long;
-            tables-long = long-trans lt (T .tables-long);
+            tables-long = long-trans (long-kept t′ t lengths) (T .tables-long);
             low = omega (arith, T .low, turn-room h);
             high = h;
             start-in = omega arith;
             going = λ w. rw em
-                (going-step (testsIn w) (prepared-listing w) (x ∷ lineOf line₀ depth) at limit t₀ (T .going w) low high (first-in w) inside
-                end after (built-in w) h (hold-long limit (T .tables-long) (T .ready .tables-hold) .marks-hold));
+                (going-step (testsIn w) (prepared-listing w) (x ∷ lineOf line₀ depth) at limit t₀ (T .going w) (found .0 .0) (found .0 .1)
+                (first-in w) inside end t′ (built-in w) h (turn-holds .marks-hold));
           }
+
+-- ---- a step ends: what is known of the trees below is said of the whole
+
+module _ {table closures exclusions arguments : List ℕ} {count : ℕ} {line : List ℕ}
+    {depth own other j parent kind at limit : ℕ} {t : Columns}
+    (ready : Ready table closures exclusions arguments count line depth own other j parent kind at limit t) (room : at < limit)
+    {x : ℕ} {line₀ indexes₀ parents₀ kinds₀ : List ℕ}
+    (e : Entered depth x j parent kind at line (t .arguments) (t .parents) (t .kinds) line₀ indexes₀ parents₀ kinds₀)
+    {joined : ℕ} {line₁ : List ℕ} {t₁ : Columns} {mark next start : ℕ}
+    (T : Turn table closures exclusions arguments count line₀ depth own other j parent kind at limit
+    (columns indexes₀ parents₀ kinds₀ (t .marks)) x joined line₁ t₁ mark next start)
+    {i k : ℕ} (found : Found table closures exclusions arguments count (lineOf line₁ (depth + 1)) start i k) where
+  same-line : x ∷ lineOf line₀ depth ≡ getD arguments j 0 ∷ lineOf line depth
+  same-line = let a = entered-line ready room x e in let b = T .argument-is in cc
+
+  -- no candidate is left, and the node is marked
+  pub turn-end : count ≤ i
+      → Leaves table closures exclusions arguments count line line₁ depth j parent kind at limit next t (closed at mark t₁)
+  turn-end h = (
+    λ w.
+        let b = turn-last T found h w in
+        tree-end (testsIn w) (prepared-listing w) (lineOf line depth) j parent kind at limit (ready .argument-in) t mark next t₁
+        (rw (same-line, entered-tables ready room x e) at (b .0)) (rw same-line at (b .1)) (T .high),
+    turn-line T line₁ refl ∙ entered-line ready room x e,
+  )
+
+  -- a reply's tree does not fit
+  pub turn-over : i < count → {end : ℕ} (line′ : List ℕ) {t′ : Columns}
+      → Leaves table closures exclusions arguments count line₁ line′ (depth + 1) i at k next limit end t₁ t′ → limit < end
+      → Leaves table closures exclusions arguments count line line′ depth j parent kind at limit end t t′
+  turn-over inside {end} line′ {t′} below h = (
+    λ w. tree-over (testsIn w) (prepared-listing w) (lineOf line depth) j parent kind at limit (ready .argument-in) t end t′
+        (rw (same-line, entered-tables ready room x e) at (turn-full T found inside line′ below h w)) room h,
+    turn-line T line′ (below .1) ∙ entered-line ready room x e,
+  )

@@ -18,7 +18,7 @@ use Rattle.tree.specs.Reply.{mine, theirs, replyKind, lastKind}
 use Rattle.tree.specs.Forest.{none, tree, replies}
 use Rattle.tree.specs.Entries.{Entry, preorder}
 use Rattle.tree.specs.OfLiteral.{indexIn}
-use Rattle.tree.specs.Tables.{Columns, Hold}
+use Rattle.tree.specs.Tables.{Columns, Hold, Built}
 
 -- a table holds the line with its root first; as a list its last argument is first
 abbrev pub lineOf : List ℕ → (depth : ℕ) → List ℕ
@@ -68,6 +68,15 @@ pub record Ready (table closures exclusions arguments : List ℕ) (count : ℕ) 
   pub budget : limit ≤ 4096
   pub line-holds : limit ≤ length line
   pub tables-hold : Hold limit t
+
+-- what a step leaves, r being its result: the tree of the argument is built below its parent, from number `at` on, and the line
+-- up to the argument is as it was
+abbrev pub Leaves : (table closures exclusions arguments : List ℕ) (count : ℕ) (line line′ : List ℕ)
+    (depth j parent kind at limit r : ℕ) (t t′ : Columns) → Type 0
+Leaves table closures exclusions arguments count line line′ depth j parent kind at limit r t t′ =
+    ((w : Prepared table closures exclusions arguments count)
+    → Built (treeEntries (testsIn w) (lineOf line depth) (getD arguments j 0) kind at parent) at limit r t t′)
+    × (lineOf line′ depth ≡ lineOf line depth)
 
 -- what is asked of a candidate: the line is that of the node it replies to, `side` has the masks of the candidate's side
 -- on it, and `last` is the kind of its last argument

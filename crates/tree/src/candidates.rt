@@ -10,8 +10,8 @@ ghost use Rattle.argument.specs.Argument.{maskOf};
 ghost use Rattle.tree.specs.Reply.{permit, replyKind};
 ghost use Rattle.tree.specs.Steps.{lineOf, Prepared, testsIn, Asked, FirstReply};
 use argument::closures;
+use argument::numbers::mask_of;
 use defeat::defeaters;
-use defeat::numbers::mask_of;
 use literals::masks;
 use program::RuleTable;
 

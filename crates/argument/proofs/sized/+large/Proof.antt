@@ -5,15 +5,17 @@ use mathlib.Core.List.{List, _++_}
 use native.Mathlib.Omega.{arith}
 use lib.Dec.{leb}
 use lib.ListN.{length, drop}
-use lib.Pow.{pow-mono}
 use borrow.Author.Needs.{needs}
 use Rattle.literals.specs.Sets.{choose}
-use Rattle.program.specs.Table.{bitCount}
+use Rattle.program.specs.Program.{Program}
+use Rattle.program.specs.Limits.{Limits}
+use Rattle.program.specs.Table.{Holds}
 use Rattle.argument.specs.declared.Listed.{Listed}
 use Rattle.argument.specs.declared.Listed.the-variants.{Count, Over}
 use Rattle.argument.specs.List.{argumentList}
-use Rattle.argument.specs.Listing.{listed, withList}
-use Prim.Native.Nat.{ℕ, _*_, _^_, _<_, _≤_}
+use Rattle.argument.specs.Listing.{listed, withList, Lists}
+use Rattle.argument.proofs.Tables.{room-upto}
+use Prim.Native.Nat.{ℕ, _<_}
 use borrow.Fn.Kinds.{In}
 use borrow.Fn.PlainCycle.{Measures, is, falls, and}
 use Rattle.argument.proofs.sized.large.Reads as large
@@ -24,16 +26,24 @@ use Rattle.argument.proofs.sized.+large.{statement}
 use Rattle.argument.proofs.sized.+large.Tie.{close}
 
 -- a list that does not fit leaves the table as it was, so that the next call finds it so
-again : (l t : List ℕ) {u v : List ℕ} {r q : Listed} → r ≡ listed l t → r ≡ Over → u ≡ withList l t → q ≡ listed l u → v ≡ withList l u → (q ≡ listed l t) × (v ≡ withList l t)
-again l t {u} {v} {r} {q} e o w f g = go (leb (length l) (length t)) refl
+again : (table t : List ℕ) {u v : List ℕ} {r q : Listed} → Lists table t u r → r ≡ Over → Lists table u v q → Lists table t v q
+again table t {u} {v} {r} {q} first o next = (
+  λ p l h. next .0 p l h ∙ ap (listed (argumentList (p .rules))) (same p l h),
+  λ p l h. next .1 p l h ∙ ap (withList (argumentList (p .rules))) (same p l h),
+)
   where
-    go : (b : Bool) → leb (length l) (length t) ≡ b → (q ≡ listed l t) × (v ≡ withList l t)
-    go true h =
-        let fits : listed l t ≡ Count (length l) = ap (λ (x : Bool). choose x (Count (length l)) Over) h in
-        absurd (let z : _≡_ {A = ℕ} 0 1 = cc in omega arith)
-    go false h =
-        let same : u ≡ t = w ∙ ap (λ (x : Bool). choose x (l ++ drop (length l) t) t) h in
-        (f ∙ ap (listed l) same, g ∙ ap (withList l) same)
+    same : (p : Program) → Limits p → Holds p table → u ≡ t
+    same p limits holds = go (leb (length l) (length t)) refl
+      where
+        l : List ℕ
+        l = argumentList (p .rules)
+
+        go : (b : Bool) → leb (length l) (length t) ≡ b → u ≡ t
+        go true h =
+            let e = first .0 p limits holds in
+            let fits : listed l t ≡ Count (length l) = ap (λ (x : Bool). choose x (Count (length l)) Over) h in
+            absurd (let z : _≡_ {A = ℕ} 0 1 = cc in omega arith)
+        go false h = first .1 p limits holds ∙ ap (λ (x : Bool). choose x (l ++ drop (length l) t) t) h
 
 abbrev μ-large : Measures 2 large-kinds.ps ℕ
 μ-large κs a = a .1 .1 .0
@@ -41,133 +51,59 @@ abbrev μ-large : Measures 2 large-kinds.ps ℕ
 abbrev large-at : ℕ → In 2 large-kinds.ps
 large-at t = and 2 large-kinds.ps (is 2 large-kinds.ps μ-large t) large.Pre
 
-abbrev large-below : ℕ → In 2 large-kinds.ps
-large-below t = and 2 large-kinds.ps (falls 2 large-kinds.ps _<_ μ-large t) large.Pre
-
-large-sub-large : (t : ℕ) → large-lts.Need-sub-large (
-  large-below t,
+-- what is known of the calls, below t
+abbrev calls : ℕ → large-lts.Claims
+calls t = (
+  and 2 large-kinds.ps (falls 2 large-kinds.ps _<_ μ-large t) large.Pre,
   large.Post,
   list-reads.Asked,
   list-reads.Learnt,
-) (large-at t) large.Post
-large-sub-large t c = omega arith
-
-large-large-requires : (t : ℕ) → large-lts.Need-large-requires (
-  large-below t,
-  large.Post,
-  list-reads.Asked,
-  list-reads.Learnt,
-) (large-at t) large.Post
-large-large-requires t c κs = (omega (arith, c .before .before .before .pre .0), c .before .before .before .pre .1)
-
-large-enum-told : (t : ℕ) → large-lts.Need-enum-told (
-  large-below t,
-  large.Post,
-  list-reads.Asked,
-  list-reads.Learnt,
-) (large-at t) large.Post
-large-enum-told t c = search needs
-
-large-sub-large-2 : (t : ℕ) → large-lts.Need-sub-large-2 (
-  large-below t,
-  large.Post,
-  list-reads.Asked,
-  list-reads.Learnt,
-) (large-at t) large.Post
-large-sub-large-2 t c = omega (arith, c .before .before .before .before .before .before .before .if1)
-
-large-large-requires-2 : (t : ℕ) → large-lts.Need-large-requires-2 (
-  large-below t,
-  large.Post,
-  list-reads.Asked,
-  list-reads.Learnt,
-) (large-at t) large.Post
-large-large-requires-2 t c κs = (omega (arith, c .before .before .before .before .before .before .before .if1, c .before .before .before .before .before .before .before .before .before .pre .0), c .before .before .before .before .before .before .before .before .before .pre .1)
-
-large-enum-known-count : (t : ℕ) → large-lts.Need-enum-known-count (
-  large-below t,
-  large.Post,
-  list-reads.Asked,
-  list-reads.Learnt,
-) (large-at t) large.Post
-large-enum-known-count t c = search needs
-
-large-same-length : (t : ℕ) → large-lts.Need-same-length (
-  large-below t,
-  large.Post,
-  list-reads.Asked,
-  list-reads.Learnt,
-) (large-at t) large.Post
-large-same-length t c = c .before .before .large2 .kept .1 .0 ∙ c .before .before .before .before .before .before .before .before .large .kept .1 .0
-
-large-returns : (t : ℕ) → large-lts.Need-returns (
-  large-below t,
-  large.Post,
-  list-reads.Asked,
-  list-reads.Learnt,
-) (large-at t) large.Post
-large-returns t c = (
-  λ p l h. again (argumentList (p .rules)) (c .before .before .before .before .before .before .before .before .before .before .before .before .args .arguments .now) (c .before .before .before .before .before .before .before .before .large .ensures .0 p l h) (c .before .before .before .before .enum-told .given .1) (c .before .before .before .before .before .before .before .before .large .ensures .1 p l h) (c .before .before .large2 .ensures .0 p l h) (c .before .before .large2 .ensures .1 p l h) .0,
-  λ p l h. again (argumentList (p .rules)) (c .before .before .before .before .before .before .before .before .before .before .before .before .args .arguments .now) (c .before .before .before .before .before .before .before .before .large .ensures .0 p l h) (c .before .before .before .before .enum-told .given .1) (c .before .before .before .before .before .before .before .before .large .ensures .1 p l h) (c .before .before .large2 .ensures .0 p l h) (c .before .before .large2 .ensures .1 p l h) .1,
 )
 
-large-same-length-2 : (t : ℕ) → large-lts.Need-same-length-2 (
-  large-below t,
-  large.Post,
-  list-reads.Asked,
-  list-reads.Learnt,
-) (large-at t) large.Post
+large-sub-large : (t : ℕ) → large-lts.Need-sub-large (calls t) (large-at t) large.Post
+large-sub-large t c = omega arith
+
+large-large-requires : (t : ℕ) → large-lts.Need-large-requires (calls t) (large-at t) large.Post
+large-large-requires t c κs = (omega (arith, c .before .before .before .pre .0), c .before .before .before .pre .1)
+
+large-enum-told : (t : ℕ) → large-lts.Need-enum-told (calls t) (large-at t) large.Post
+large-enum-told t c = search needs
+
+large-sub-large-2 : (t : ℕ) → large-lts.Need-sub-large-2 (calls t) (large-at t) large.Post
+large-sub-large-2 t c = omega (arith, c .before .before .before .before .before .before .before .if1)
+
+large-large-requires-2 : (t : ℕ) → large-lts.Need-large-requires-2 (calls t) (large-at t) large.Post
+large-large-requires-2 t c κs = (omega (arith, c .before .before .before .before .before .before .before .if1, c .before .before .before .before .before .before .before .before .before .pre .0), c .before .before .before .before .before .before .before .before .before .pre .1)
+
+large-enum-known-count : (t : ℕ) → large-lts.Need-enum-known-count (calls t) (large-at t) large.Post
+large-enum-known-count t c = search needs
+
+large-same-length : (t : ℕ) → large-lts.Need-same-length (calls t) (large-at t) large.Post
+large-same-length t c = c .before .before .large2 .kept .1 .0 ∙ c .before .before .before .before .before .before .before .before .large .kept .1 .0
+
+large-returns : (t : ℕ) → large-lts.Need-returns (calls t) (large-at t) large.Post
+large-returns t c = again _ (c .before .before .before .before .before .before .before .before .before .before .before .before .args .arguments .now) (c .before .before .before .before .before .before .before .before .large .ensures) (c .before .before .before .before .enum-told .given .1) (c .before .before .large2 .ensures)
+
+large-same-length-2 : (t : ℕ) → large-lts.Need-same-length-2 (calls t) (large-at t) large.Post
 large-same-length-2 t c = c .before .before .before .before .before .large .kept .1 .0
 
-large-returns-2 : (t : ℕ) → large-lts.Need-returns-2 (
-  large-below t,
-  large.Post,
-  list-reads.Asked,
-  list-reads.Learnt,
-) (large-at t) large.Post
+large-returns-2 : (t : ℕ) → large-lts.Need-returns-2 (calls t) (large-at t) large.Post
 large-returns-2 t c = (λ p l h. sym (c .before .count .given .1) ∙ c .before .before .before .before .before .large .ensures .0 p l h, c .before .before .before .before .before .large .ensures .1)
 
-large-slice-aggregate-list : (t : ℕ) → large-lts.Need-slice-aggregate-list (
-  large-below t,
-  large.Post,
-  list-reads.Asked,
-  list-reads.Learnt,
-) (large-at t) large.Post
+large-slice-aggregate-list : (t : ℕ) → large-lts.Need-slice-aggregate-list (calls t) (large-at t) large.Post
 large-slice-aggregate-list t c = search needs
 
-large-list-requires : (t : ℕ) → large-lts.Need-list-requires (
-  large-below t,
-  large.Post,
-  list-reads.Asked,
-  list-reads.Learnt,
-) (large-at t) large.Post
-large-list-requires t c κs = (c .before .before .before .before .pre .1, record { few = c .before .before .before .before .pre .1 .few; long = omega (arith, pow-mono {i = bitCount (c .before .before .before .before .args .table .now)} {j = 16} (c .before .before .before .before .pre .1 .few)) })
+large-list-requires : (t : ℕ) → large-lts.Need-list-requires (calls t) (large-at t) large.Post
+large-list-requires t c κs = let p = c .before .before .before .before .pre .1 in (p, room-upto 16 _ _ (p .few) (omega arith) (omega arith))
 
-large-same-length-3 : (t : ℕ) → large-lts.Need-same-length-3 (
-  large-below t,
-  large.Post,
-  list-reads.Asked,
-  list-reads.Learnt,
-) (large-at t) large.Post
+large-same-length-3 : (t : ℕ) → large-lts.Need-same-length-3 (calls t) (large-at t) large.Post
 large-same-length-3 t c = c .before .before .before .list .kept .1 .1 .0
 
-large-returns-3 : (t : ℕ) → large-lts.Need-returns-3 (
-  large-below t,
-  large.Post,
-  list-reads.Asked,
-  list-reads.Learnt,
-) (large-at t) large.Post
+large-returns-3 : (t : ℕ) → large-lts.Need-returns-3 (calls t) (large-at t) large.Post
 large-returns-3 t c = (c .before .before .before .list .ensures .0, c .before .before .before .list .ensures .1 .0)
 
 pub +large-spec : {M : Type 1} → statement M
-+large-spec = close μ-large λ t. large-lts.spec (
-  large-below t,
-  large.Post,
-  list-reads.Asked,
-  list-reads.Learnt,
-)
-    (large-at t)
-    large.Post
++large-spec = close μ-large λ t. large-lts.spec (calls t) (large-at t) large.Post
     (large-sub-large t)
     (large-large-requires t)
     (large-enum-told t)

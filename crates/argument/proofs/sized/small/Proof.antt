@@ -1,9 +1,7 @@
 -- A table for 8 rules has room. Assumes nothing.
-use Prim.Native.Nat.{_*_, _^_, _≤_}
-use lib.Pow.{pow-mono}
-use Rattle.program.specs.Table.{bitCount}
 use native.Mathlib.Omega.{arith}
 use borrow.Author.Needs.{needs}
+use Rattle.argument.proofs.Tables.{room-upto}
 use Rattle.argument.proofs.sized.small.Statement.{statement}
 use Rattle.argument.proofs.sized.small.Tie as tie
 
@@ -12,8 +10,8 @@ slice-aggregate-list c = search needs
 
 list-requires : tie.Need-list-requires
 list-requires c κs =
-    let few = c .before .before .before .pre .1 in
-    (c .before .before .before .pre .0, record { few = omega arith; long = omega (arith, pow-mono {i = bitCount (c .before .before .before .args .table .now)} {j = 8} few) })
+    let p = c .before .before .before .pre in
+    (p .0, room-upto 8 _ _ (p .1) (omega arith) (omega arith))
 
 same-length : tie.Need-same-length
 same-length c = search needs

@@ -181,10 +181,9 @@ returns-2 c =
 
 preferred-requires-2 : tie.Need-preferred-requires-2 Inv-loop μ-loop
 preferred-requires-2 c κs =
-    let t = c .before .before .before .before .before .before .before in
-    let masks = t .before .before .before .pre .1 in
-    let small = t .before .before .before .pre .0 .small (t .before .loop .i) (t .loop-test .taken) in
-    let mask = c .before .before .before .before .before .mask-of .ensures in
+    let small = preferred-requires (c .before .before) κs in
+    let x = small .0 in
+    let m = small .1 in
     (omega arith, omega arith)
 
 loop-less-2 : tie.Need-loop-less-2 Inv-loop μ-loop

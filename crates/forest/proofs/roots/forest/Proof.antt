@@ -1,7 +1,6 @@
 -- The trees for the literal, then those for its complement.
 use mathlib.Core.Path.{_∙_}
 use Rattle.tree.specs.Steps.{testsIn}
-use Rattle.tree.proofs.Turn.{Long}
 use Rattle.tree.proofs.Trees.{forest-over, forest-end}
 use Rattle.tree.proofs.RootTurn.{roots-moved}
 use Rattle.forest.proofs.roots.forest.Statement.{statement}
@@ -34,13 +33,7 @@ complement-requires c κs = c .before .before .before .before .before .before .b
 trees-requires-2 : tie.Need-trees-requires-2
 trees-requires-2 c κs =
     let a = c .before .before .before .before .before .before .before .before .before .before .before .before .before .before .before .before .before .trees in
-    let long : Long _ _ = record {
-      arguments-long = a .kept .1 .1 .1 .1 .1 .1 .1 .1 .1 .0;
-      parents-long = a .kept .1 .1 .1 .1 .1 .1 .1 .1 .1 .1 .0;
-      kinds-long = a .kept .1 .1 .1 .1 .1 .1 .1 .1 .1 .1 .1 .0;
-      marks-long = a .kept .1 .1 .1 .1 .1 .1 .1 .1 .1 .1 .1 .1 .0;
-    } in
-    roots-moved (c .before .before .before .before .before .before .before .before .before .before .before .before .before .before .before .before .before .before .before .before .before .before .before .before .before .before .before .before .before .before .pre .0) _ _ _ (c .before .before .before .before .before .before .if1 .left) (a .kept .1 .1 .1 .1 .1 .1 .0) long
+    roots-moved (c .before .before .before .before .before .before .before .before .before .before .before .before .before .before .before .before .before .before .before .before .before .before .before .before .before .before .before .before .before .before .pre .0) _ _ _ (c .before .before .before .before .before .before .if1 .left) (a .kept .1 .1 .1 .1 .1 .1 .0) (a .kept .1 .1 .1 .1 .1 .1 .1 .1 .1)
 
 same-length-6 : tie.Need-same-length-6
 same-length-6 c = c .before .before .before .before .before .before .before .before .before .before .trees2 .kept .1 .1 .1 .1 .1 .1 .0 ∙ c .before .before .before .before .before .before .before .before .before .before .before .before .before .before .before .before .before .before .before .before .before .before .before .before .before .before .before .before .trees .kept .1 .1 .1 .1 .1 .1 .0

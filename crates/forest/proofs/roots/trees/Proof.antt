@@ -3,9 +3,7 @@ use mathlib.Core.Path.{_∙_}
 use Prim.Native.Nat.{_-_}
 use native.Mathlib.Omega.{arith}
 use Rattle.tree.specs.Tables.{columns}
-use Rattle.tree.proofs.Listings.{prepared-count}
-use Rattle.tree.proofs.Turn.{Long}
-use Rattle.tree.proofs.RootTurn.{RootTurn, root-turn-start, root-turn-end, root-ready, root-turn-over, root-turn-room, root-turn-step}
+use Rattle.tree.proofs.RootTurn.{RootTurn, root-turn-start, root-turn-end, root-ready, root-turn-over, root-turn-mark, root-turn-index, root-turn-less, root-turn-step}
 use borrow.Author.Needs.{needs}
 use Rattle.forest.proofs.roots.trees.Statement.{statement}
 use Rattle.forest.proofs.roots.trees.Tie as tie
@@ -66,35 +64,21 @@ returns-2 c =
     root-turn-over (c .before .before .before .before .before .before .before .before .before .before .before .before .before .before .before .before .before .before .before .loop .inv) (c .before .before .before .before .before .before .before .before .before .before .before .before .before .before .before .before .before .before .first-for .ensures) (c .before .before .before .before .before .before .before .before .before .before .before .before .before .before .before .before .before .if1 .left) _ _ (c .before .before .before .before .before .before .before .before .before .before .before .supporter .ensures .0) (c .if2 .taken)
 
 slice-read-or-undefeated : tie.Need-slice-read-or-undefeated Inv-loop μ-loop
-slice-read-or-undefeated c =
-    let T = c .before .before .before .before .before .before .before .before .before .before .before .before .before .before .before .before .before .before .before .before .loop .inv in
-    let f = c .before .before .before .before .before .before .before .before .before .before .before .before .before .before .before .before .before .before .before .first-for .ensures in
-    let o = c .before .before .before .before .before .before .before .before .before .before .before .before .supporter in
-    let h = c .before .if2 .left in
-    let room = root-turn-room T f (c .before .before .before .before .before .before .before .before .before .before .before .before .before .before .before .before .before .before .if1 .left) _ _ (o .ensures .0) h in
-    omega (arith, room, h, o .kept .1 .1 .1 .1 .1 .1 .1 .1 .1 .1 .1 .1 .1 .1 .1 .1 .1 .0, T .tables-long .marks-long, T .ready .tables-hold .marks-hold)
+slice-read-or-undefeated c = root-turn-mark (c .before .before .before .before .before .before .before .before .before .before .before .before .before .before .before .before .before .before .before .before .loop .inv) (c .before .before .before .before .before .before .before .before .before .before .before .before .before .before .before .before .before .before .before .first-for .ensures) (c .before .before .before .before .before .before .before .before .before .before .before .before .before .before .before .before .before .before .if1 .left) _ _ (c .before .before .before .before .before .before .before .before .before .before .before .before .supporter .ensures .0) (c .before .if2 .left) (c .before .before .before .before .before .before .before .before .before .before .before .before .supporter .kept .1 .1 .1 .1 .1 .1 .1 .1 .1 .1 .1 .1 .1 .1 .1 .1 .1 .0)
 
 or-undefeated-requires : tie.Need-or-undefeated-requires Inv-loop μ-loop
 or-undefeated-requires c κs = search needs
 
 add-start : tie.Need-add-start Inv-loop μ-loop
-add-start c = omega (arith, prepared-count (c .before .before .before .before .before .before .before .before .before .before .before .before .before .before .before .before .before .before .before .before .before .loop .inv .ready .prepared), c .before .before .before .before .before .before .before .before .before .before .before .before .before .before .before .before .before .before .before .if1 .left)
+add-start c = omega (arith, root-turn-index (c .before .before .before .before .before .before .before .before .before .before .before .before .before .before .before .before .before .before .before .before .before .loop .inv) (c .before .before .before .before .before .before .before .before .before .before .before .before .before .before .before .before .before .before .before .before .first-for .ensures) (c .before .before .before .before .before .before .before .before .before .before .before .before .before .before .before .before .before .before .before .if1 .left))
 
 loop-less : tie.Need-loop-less Inv-loop μ-loop
-loop-less c = omega (arith, c .before .before .before .before .before .before .before .before .before .before .before .before .before .before .before .before .before .before .before .before .first-for .ensures .low, c .before .before .before .before .before .before .before .before .before .before .before .before .before .before .before .before .before .before .before .if1 .left)
+loop-less c = omega (arith, root-turn-less (c .before .before .before .before .before .before .before .before .before .before .before .before .before .before .before .before .before .before .before .before .before .loop .inv) (c .before .before .before .before .before .before .before .before .before .before .before .before .before .before .before .before .before .before .before .before .first-for .ensures) (c .before .before .before .before .before .before .before .before .before .before .before .before .before .before .before .before .before .before .before .if1 .left))
 
 loop-again : tie.Need-loop-again Inv-loop μ-loop
 loop-again c =
-    let T = c .before .before .before .before .before .before .before .before .before .before .before .before .before .before .before .before .before .before .before .before .before .loop .inv in
-    let f = c .before .before .before .before .before .before .before .before .before .before .before .before .before .before .before .before .before .before .before .before .first-for .ensures in
     let o = c .before .before .before .before .before .before .before .before .before .before .before .before .before .supporter in
-    let long : Long _ _ = record {
-      arguments-long = o .kept .1 .1 .1 .1 .1 .1 .1 .1 .1 .1 .1 .1 .1 .1 .0;
-      parents-long = o .kept .1 .1 .1 .1 .1 .1 .1 .1 .1 .1 .1 .1 .1 .1 .1 .0;
-      kinds-long = o .kept .1 .1 .1 .1 .1 .1 .1 .1 .1 .1 .1 .1 .1 .1 .1 .1 .0;
-      marks-long = o .kept .1 .1 .1 .1 .1 .1 .1 .1 .1 .1 .1 .1 .1 .1 .1 .1 .1 .0;
-    } in
-    root-turn-step T f (c .before .before .before .before .before .before .before .before .before .before .before .before .before .before .before .before .before .before .before .if1 .left) _ _ (o .ensures .0) _ _ (c .before .before .if2 .left) (o .kept .1 .1 .1 .1 .1 .0) long (c .or-undefeated .ensures)
+    root-turn-step (c .before .before .before .before .before .before .before .before .before .before .before .before .before .before .before .before .before .before .before .before .before .loop .inv) (c .before .before .before .before .before .before .before .before .before .before .before .before .before .before .before .before .before .before .before .before .first-for .ensures) (c .before .before .before .before .before .before .before .before .before .before .before .before .before .before .before .before .before .before .before .if1 .left) _ _ (o .ensures .0) _ _ (c .before .before .if2 .left) (o .kept .1 .1 .1 .1 .1 .0) (o .kept .1 .1 .1 .1 .1 .1 .1 .1 .1 .1 .1 .1 .1 .1) (c .or-undefeated .ensures)
 
 pub trees-spec : {M : Type 1} → statement M
 trees-spec =

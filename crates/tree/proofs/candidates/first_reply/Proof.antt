@@ -1,10 +1,10 @@
 -- The candidates passed so far are no replies.
 use mathlib.Core.Path.{_≡_, sym, _∙_}
-use Prim.Native.Nat.{ℕ, _≤_, _<_, _-_}
+use Prim.Native.Nat.{_-_}
 use native.Mathlib.Omega.{arith}
-use borrow.Author.Count.{below-more}
 use borrow.Author.Needs.{needs}
 use lib.ListN.{getD}
+use Rattle.lists.proofs.Scans.{Scanned, scan-start, scan-more, scan-end}
 use Rattle.tree.specs.Reply.{replyKind}
 use Rattle.tree.specs.Steps.{lineOf, Prepared, testsIn}
 use Rattle.tree.proofs.candidates.first_reply.Statement.{statement}
@@ -12,24 +12,24 @@ use Rattle.tree.proofs.candidates.first_reply.Tie as tie
 
 abbrev Inv-loop : tie.InvT-loop
 Inv-loop table closures exclusions arguments count line depth side last start j₀ j =
-    (start ≤ j) × (j ≤ count) × ((w : Prepared table closures exclusions arguments count) (i : ℕ)
-    → i < j → start ≤ i → replyKind (testsIn w) (lineOf line depth) (getD arguments i 0) ≡ 0)
+    Scanned (λ i. (w : Prepared table closures exclusions arguments count) → replyKind (testsIn w) (lineOf line depth) (getD arguments i 0) ≡ 0)
+    start count j
 
 abbrev μ-loop : tie.MeasureT-loop
 μ-loop table closures exclusions arguments count line depth side last start j₀ j = count - j
 
 loop-holds : tie.Need-loop-holds Inv-loop μ-loop
-loop-holds c = (omega arith, omega arith, λ w i b a. absurd (omega arith))
+loop-holds c = scan-start (c .before .before .before .pre .1)
 
 reply-kind-requires : tie.Need-reply-kind-requires Inv-loop μ-loop
 reply-kind-requires c κs = (c .before .before .before .before .before .pre .0, search needs)
 
 returns : tie.Need-returns Inv-loop μ-loop
 returns c =
-    let l = c .before .before .before .loop in (
-      (l .inv .0, l .inv .1),
+    let s = c .before .before .before .loop .inv in (
+      (s .low, s .high),
       λ w. record {
-        none-before = λ i a b. l .inv .2 w i b a;
+        none-before = λ i a b. s .missed i a b w;
         kind-is = λ h. c .before .reply-kind .ensures w;
         is-reply = λ h. c .if1 .taken;
       },
@@ -43,18 +43,17 @@ loop-less c = search needs
 
 loop-again : tie.Need-loop-again Inv-loop μ-loop
 loop-again c =
-    let l = c .before .before .before .loop in
-    (omega arith, omega arith, λ w. below-more _ _ (l .inv .2 w) (λ a. sym (c .before .reply-kind .ensures w) ∙ c .if1 .left))
+    scan-more (c .before .before .before .loop .inv) (c .before .before .loop-test .taken)
+    (λ w. sym (c .before .reply-kind .ensures w) ∙ c .if1 .left)
 
 returns-2 : tie.Need-returns-2 Inv-loop μ-loop
 returns-2 c =
-    let l = c .before .loop in
-    let h = c .loop-test .left in (
-      (omega arith, omega arith),
+    let s = scan-end (c .before .loop .inv) (c .loop-test .left) in (
+      (s .low, s .high),
       λ w. record {
-        none-before = λ i a b. l .inv .2 w i (omega arith) a;
-        kind-is = λ lt. absurd (omega arith);
-        is-reply = λ lt. absurd (omega arith);
+        none-before = λ i a b. s .missed i a b w;
+        kind-is = λ h. absurd (omega arith);
+        is-reply = λ h. absurd (omega arith);
       },
     )
 
