@@ -1,11 +1,11 @@
 //! Refusals 20 to 23 in their order, and what every call does to the lent tables.
 
+use foqtirel_tests::fittings::F;
 use foqtirel_tests::generator::{all_applicable, many_arguments, Description, MANY_ARGUMENTS};
 use foqtirel_tests::reference::{
     check, host_call, list, query, Analysis, Answer, Cause, Code, NodeEntry, Refusal,
 };
 
-const F: &str = "0; d 2<0; d 3<0; (1,2)";
 const F_LIST: [u32; 3] = [0, 130, 259];
 
 fn image(program: &str) -> Vec<u8> {

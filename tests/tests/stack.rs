@@ -166,7 +166,7 @@ fn least_stacks() {
 /// or in a loop that touches every page on the way.
 #[test]
 fn largest_frames() {
-    let library = Path::new(env!("PROBE_DIRECTORY")).join("libprobe.a");
+    let library = Path::new(env!("LIBRARY_DIRECTORY")).join("libprobe.a");
     let output = Command::new("objdump")
         .args(["-d", "--no-show-raw-insn"])
         .arg(&library)
