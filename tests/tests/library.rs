@@ -245,6 +245,21 @@ fn unknown_comes_last() {
     assert_eq!(arguments, [0, 130, 259]);
 }
 
+/// Literal 2 of F has three nodes.
+#[test]
+fn unfinished_zeroes_the_budget() {
+    for budget in 0..3 {
+        let (mut arguments, mut nodes) = tables(4, 5);
+        let (old_arguments, old_nodes) = tables(4, 5);
+        let given = native::query(&image(F), 2, budget as u32, &mut arguments, &mut nodes);
+        assert_eq!(given, 5 * 65_536 + budget as u64);
+        assert_eq!(arguments[..3], [0, 130, 259]);
+        assert_eq!(arguments[3..], old_arguments[3..]);
+        assert_eq!(nodes[..budget], vec![Node::default(); budget]);
+        assert_eq!(nodes[budget..], old_nodes[budget..]);
+    }
+}
+
 #[test]
 fn no_bytes_are_an_image_of_length_zero() {
     // SAFETY: nothing is read from an image of no bytes, and nothing written to tables of none.

@@ -69,6 +69,7 @@ pub struct QueryReport {
     exact_tables: usize,
     largest_forest: usize,
     kept_apart: usize,
+    both_granted: usize,
 }
 
 impl Default for QueryReport {
@@ -83,6 +84,7 @@ impl Default for QueryReport {
             exact_tables: 0,
             largest_forest: 0,
             kept_apart: 0,
+            both_granted: 0,
         }
     }
 }
@@ -113,6 +115,7 @@ impl QueryReport {
     pub fn both_granted(&mut self, image: &[u8], literals: String) {
         let opinions = [("both YES though they exclude each other", literals)];
         self.faults.differed(image, &opinions);
+        self.both_granted += 1;
     }
 
     pub fn kept_apart(&mut self, pairs: usize) {
@@ -131,8 +134,8 @@ impl QueryReport {
             self.exact_tables, self.largest_forest
         );
         println!(
-            "query: {} programs asked about all their literals; {} pairs that exclude each other with a YES for one",
-            self.asked_wholly, self.kept_apart
+            "query: {} programs asked about all their literals; {} pairs that exclude each other with YES to one, {} with YES to both",
+            self.asked_wholly, self.kept_apart, self.both_granted
         );
         let damaged = self.images.damaged();
         faults.demand("enough damaged images", damaged >= LEAST_DAMAGED);
