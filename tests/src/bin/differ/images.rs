@@ -6,6 +6,8 @@ use crate::report::Faults;
 
 /// The reference takes long for programs with more defeasible rules than this ...
 const MOST_QUICK: usize = 12;
+/// ... though it is worth it for programs with large trees ...
+const MOST_CONTESTED: usize = 14;
 /// ... so only so many of them are compared, of the programs and of the damaged images each.
 const MOST_SLOW: usize = 40;
 
@@ -13,6 +15,7 @@ const MOST_SLOW: usize = 40;
 #[derive(Clone, Copy, PartialEq, Eq)]
 pub enum Source {
     Program,
+    Contested,
     Damaged,
     Vector,
 }
@@ -31,24 +34,21 @@ pub struct Images {
 impl Images {
     /// False if the image is to be left out.
     pub fn admit(&mut self, source: Source, image: &[u8]) -> bool {
-        let slow = match source {
-            Source::Program => &mut self.slow_programs,
-            Source::Damaged => &mut self.slow_damaged,
-            Source::Vector => return true,
+        let defeasible = defeasible_rules(image);
+        let admitted = match source {
+            Source::Program => few_of(&mut self.slow_programs, defeasible),
+            Source::Damaged => few_of(&mut self.slow_damaged, defeasible),
+            Source::Contested => defeasible <= MOST_CONTESTED,
+            Source::Vector => true,
         };
-        if defeasible_rules(image) <= MOST_QUICK {
-            return true;
-        }
-        *slow += 1;
-        let admitted = *slow <= MOST_SLOW;
         self.left_out += usize::from(!admitted);
         admitted
     }
 
     pub fn count(&mut self, source: Source, accepted: bool, defeasible: usize) {
         match source {
-            Source::Program if accepted => self.programs[defeasible] += 1,
-            Source::Program => {}
+            Source::Program | Source::Contested if accepted => self.programs[defeasible] += 1,
+            Source::Program | Source::Contested => {}
             Source::Damaged => self.damaged += 1,
             Source::Vector => self.vectors += 1,
         }
@@ -74,4 +74,10 @@ impl Images {
         faults.demand("programs with 0 to 16 defeasible rules", every);
         faults.demand("some vectors", self.vectors > 0);
     }
+}
+
+/// True for a quick image, and for the first few slow ones.
+fn few_of(slow: &mut usize, defeasible: usize) -> bool {
+    *slow += usize::from(defeasible > MOST_QUICK);
+    defeasible <= MOST_QUICK || *slow <= MOST_SLOW
 }

@@ -4,11 +4,13 @@
 //! The product of literals, budgets and lengths is too large, so a program with many defeasible
 //! rules, which every call reads anew, is asked about fewer literals; each with all its budgets.
 
-use foqtirel_tests::generator::accepted::small_programs;
+use foqtirel_tests::generator::accepted::{contested_programs, small_programs};
 use foqtirel_tests::generator::{accepted, damaged, Case, Random};
 use foqtirel_tests::native;
 use foqtirel_tests::reference::tree::{Forest, NodeEntry};
-use foqtirel_tests::reference::{host_number, Analysis, Answer, Literal, Refusal, MOST_NODES};
+use foqtirel_tests::reference::{
+    host_number, Analysis, Answer, Argument, Literal, Refusal, MOST_NODES,
+};
 use foqtirel_tests::vectors;
 
 use crate::granted::Granted;
@@ -16,8 +18,10 @@ use crate::images::Source;
 use crate::lent;
 use crate::queryreport::{QueryReport, LITERALS};
 
-const MIXED: usize = 9_000;
-const SMALL: usize = 2_500;
+const MIXED: usize = 8_500;
+const SMALL: usize = 1_500;
+/// Programs with large trees, by how many rules each side has at most.
+const CONTESTED: [(usize, usize); 2] = [(6, 1_200), (7, 800)];
 /// Some of these are left out as slow.
 const DAMAGED: usize = 20_200;
 /// With at most so many defeasible rules a program is asked about all its literals; with each
@@ -38,6 +42,10 @@ pub fn compare(seed: u64, report: &mut QueryReport) {
     let mut random = Random::seeded(seed ^ 0x7175_6572);
     let programs = accepted(seed ^ 0x7072_6F67, MIXED).chain(small_programs(!seed, SMALL));
     compare_cases(Source::Program, programs, &mut random, report);
+    for (most_per_side, count) in CONTESTED {
+        let programs = contested_programs(seed ^ 0x636F_6E74, count, most_per_side);
+        compare_cases(Source::Contested, programs, &mut random, report);
+    }
     let damaged = damaged(seed ^ 0x6461_6D61, DAMAGED);
     compare_cases(Source::Damaged, damaged, &mut random, report);
     for image in vectors::images() {
@@ -102,7 +110,7 @@ fn compare_image(source: Source, image: &[u8], random: &mut Random, report: &mut
     report.images.count(source, analysis.is_ok(), defeasible);
 }
 
-/// The literals to ask about: those of all atoms or of some, and a few beyond.
+/// The literals to ask about: those of all atoms or of some, and a few beyond the atoms.
 fn literals(
     analysis: &Analysis,
     defeasible: usize,
@@ -112,10 +120,17 @@ fn literals(
 ) -> Vec<u32> {
     let atoms: Vec<u32> = (0..analysis.program.atoms as u32).collect();
     let share = atoms.len() >> defeasible.saturating_sub(ASKED_WHOLLY);
-    let chosen = random.sample(&atoms, share.clamp(1, most_atoms));
+    let mut chosen = random.sample(&atoms, share.clamp(1, most_atoms));
     if chosen.len() == atoms.len() {
         report.asked_wholly();
     }
+    // The atom with the most arguments is the one that most is said about.
+    let arguments_for = |atom: u32| {
+        let about = |a: &&Argument| u32::from(a.literal.atom()) == atom;
+        analysis.arguments.iter().filter(about).count()
+    };
+    let busiest = atoms.iter().copied().max_by_key(|&a| arguments_for(a));
+    chosen.extend(busiest.filter(|atom| !chosen.contains(atom)));
     let mut literals: Vec<u32> = chosen.iter().flat_map(|&a| [2 * a, 2 * a + 1]).collect();
     for _ in 0..BEYOND {
         literals.push(random.between(2 * atoms.len(), LITERALS - 1) as u32);

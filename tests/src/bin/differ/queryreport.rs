@@ -9,6 +9,8 @@ use crate::report::Faults;
 
 const LEAST_PROGRAMS: usize = 10_000;
 const LEAST_DAMAGED: usize = 20_000;
+/// Each size of forest must be seen so often.
+const LEAST_FORESTS: usize = 100;
 const CODES: [Code; 5] = [
     Code::Yes,
     Code::No,
@@ -67,6 +69,8 @@ pub struct QueryReport {
     /// Programs that were asked about all their literals.
     asked_wholly: usize,
     exact_tables: usize,
+    /// Finished forests by how many digits their number of nodes has; none for an empty one.
+    forests: [usize; 5],
     largest_forest: usize,
     kept_apart: usize,
     both_granted: usize,
@@ -82,6 +86,7 @@ impl Default for QueryReport {
             asked: [0; LITERALS],
             asked_wholly: 0,
             exact_tables: 0,
+            forests: [0; 5],
             largest_forest: 0,
             kept_apart: 0,
             both_granted: 0,
@@ -97,8 +102,9 @@ impl QueryReport {
             *calls += 1;
         }
         if let Ok(answer) = result {
-            if answer.code != Code::Unfinished {
+            if !matches!(answer.code, Code::Unknown | Code::Unfinished) {
                 self.largest_forest = self.largest_forest.max(answer.nodes);
+                self.forests[digits(answer.nodes)] += 1;
             }
         }
     }
@@ -134,15 +140,25 @@ impl QueryReport {
             self.exact_tables, self.largest_forest
         );
         println!(
+            "query: finished forests with 0, 1 to 9, 10 to 99, 100 to 999 and more nodes: {:?}",
+            self.forests
+        );
+        println!(
             "query: {} programs asked about all their literals; {} pairs that exclude each other with YES to one, {} with YES to both",
             self.asked_wholly, self.kept_apart, self.both_granted
         );
         let damaged = self.images.damaged();
         faults.demand("enough damaged images", damaged >= LEAST_DAMAGED);
         faults.demand("each literal 0 to 130", least > 0);
+        let every = self.forests.iter().all(|&forests| forests >= LEAST_FORESTS);
+        faults.demand("enough forests of every size", every);
         faults.demand("answers in exact tables", self.exact_tables > 0);
         faults.demand("the greatest budget used up", self.largest_forest == 4096);
         faults.demand("some pairs kept apart", self.kept_apart > 0);
         faults.finish("query")
     }
+}
+
+fn digits(number: usize) -> usize {
+    number.checked_ilog10().map_or(0, |log| log as usize + 1)
 }
