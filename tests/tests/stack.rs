@@ -180,7 +180,7 @@ fn the_figures_of_the_header_hold() {
     let mut held = level <= header["STACK_LEVEL"];
     for (rules, longest, stack) in figures {
         let least = least_stack(&format!("ask rules={rules}"));
-        let with_lines = least + longest * level;
+        let with_lines = least + (longest + 1) * level;
         lines += &format!(
             "least stack of the C call for {rules} defeasible rules: {} KiB; with a line of {longest}: \
              {} KiB of the header's {}\n",

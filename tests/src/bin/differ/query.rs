@@ -99,9 +99,7 @@ fn compare_image(source: Source, image: &[u8], random: &mut Random, report: &mut
     let mut defeasible = 0;
     if let Ok(analysis) = &analysis {
         defeasible = analysis.program.defeasible_numbers().len();
-        // A damaged image that is accepted after all is like any other: one atom of it will do.
-        let most_atoms = if source == Source::Damaged { 1 } else { 64 };
-        let literals = literals(analysis, defeasible, most_atoms, random, report);
+        let literals = literals(source, analysis, defeasible, random, report);
         asked.compare_literals(&literals, random, report);
     }
     for _ in 0..AT_RANDOM {
@@ -112,16 +110,18 @@ fn compare_image(source: Source, image: &[u8], random: &mut Random, report: &mut
 
 /// The literals to ask about: those of all atoms or of some, and a few beyond the atoms.
 fn literals(
+    source: Source,
     analysis: &Analysis,
     defeasible: usize,
-    most_atoms: usize,
     random: &mut Random,
     report: &mut QueryReport,
 ) -> Vec<u32> {
     let atoms: Vec<u32> = (0..analysis.program.atoms as u32).collect();
     let share = atoms.len() >> defeasible.saturating_sub(ASKED_WHOLLY);
-    let mut chosen = random.sample(&atoms, share.clamp(1, most_atoms));
-    if chosen.len() == atoms.len() {
+    // A damaged image that is accepted after all is like any other: one atom of it will do.
+    let damaged = source == Source::Damaged;
+    let mut chosen = random.sample(&atoms, if damaged { 1 } else { share.max(1) });
+    if !damaged && chosen.len() == atoms.len() {
         report.asked_wholly();
     }
     // The atom with the most arguments is the one that most is said about.
