@@ -1,5 +1,5 @@
-//! Links the native library for `differ` and the stack test only when FOQTIREL_LIB_DIR names its
-//! directory.
+//! Links the native libraries for `differ`, `sample` and the tests of the calls only when
+//! FOQTIREL_LIB_DIR names their directory.
 
 fn main() {
     println!("cargo:rustc-check-cfg=cfg(probe)");
@@ -9,8 +9,9 @@ fn main() {
         if !directory.is_empty() {
             println!("cargo:rustc-cfg=probe");
             println!("cargo:rustc-link-search=native={directory}");
-            println!("cargo:rustc-env=PROBE_DIRECTORY={directory}");
+            println!("cargo:rustc-env=LIBRARY_DIRECTORY={directory}");
             println!("cargo:rerun-if-changed={directory}/libprobe.a");
+            println!("cargo:rerun-if-changed={directory}/libhost.a");
         }
     }
 }

@@ -1,5 +1,10 @@
 //! The warrant engine once more, written slowly and literally from document 01 and from
 //! Definitions 1 to 9, with generators of images to run another implementation against.
 
+pub mod fittings;
 pub mod generator;
+pub mod header;
+#[cfg(probe)]
+pub mod native;
 pub mod reference;
+pub mod vectors;

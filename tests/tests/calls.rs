@@ -1,11 +1,14 @@
 //! Refusals 20 to 23 in their order, and what every call does to the lent tables.
 
+use foqtirel_tests::fittings::F;
+use foqtirel_tests::generator::accepted::small_programs;
 use foqtirel_tests::generator::{all_applicable, many_arguments, Description, MANY_ARGUMENTS};
+use foqtirel_tests::reference::tree::Forest;
 use foqtirel_tests::reference::{
-    check, host_call, list, query, Analysis, Answer, Cause, Code, NodeEntry, Refusal,
+    check, host_call, list, query, Analysis, Answer, Cause, Code, Literal, NodeEntry, Refusal,
+    MOST_NODES,
 };
 
-const F: &str = "0; d 2<0; d 3<0; (1,2)";
 const F_LIST: [u32; 3] = [0, 130, 259];
 
 fn image(program: &str) -> Vec<u8> {
@@ -178,6 +181,33 @@ fn the_host_call_packs_its_answer() {
     assert_eq!(host_call(&[], 127, 4097), 1);
     // The table for arguments has 4,096 entries.
     assert_eq!(host_call(&many_arguments().image(), 2, 10), 23);
+}
+
+/// A forest known from before gives the same as one that stops at the budget.
+#[test]
+fn a_known_forest_answers_every_budget() {
+    let mut unfinished = 0;
+    for case in small_programs(99, 60) {
+        let Ok(analysis) = Analysis::of_image(&case.image) else {
+            continue;
+        };
+        for literal in 0..2 * analysis.program.atoms as u32 {
+            let forest = Forest::of(Literal::new(literal as u8), &analysis, MOST_NODES);
+            let forest = forest.as_ref();
+            for budget in [0, 1, 2, 3, 5, 9, 40, 4096, 4097] {
+                let count = analysis.arguments.len();
+                let (mut list, mut nodes) = tables(count, 4096);
+                let (mut same_list, mut same_nodes) = tables(count, 4096);
+                let answer = analysis.query(literal, budget, &mut list, &mut nodes);
+                let same =
+                    analysis.query_in(forest, literal, budget, &mut same_list, &mut same_nodes);
+                assert_eq!(answer, same);
+                assert_eq!((list, nodes), (same_list, same_nodes));
+                unfinished += usize::from(answer.is_ok_and(|a| a.code == Code::Unfinished));
+            }
+        }
+    }
+    assert!(unfinished > 100, "only {unfinished} were unfinished");
 }
 
 #[test]

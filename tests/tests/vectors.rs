@@ -1,37 +1,11 @@
 //! The reference against the vectors, and the vectors' notation against the image builder.
 
 use std::collections::BTreeMap;
-use std::fs;
-use std::path::{Path, PathBuf};
 
 use foqtirel_tests::generator::Description;
 use foqtirel_tests::reference::tree::{line_to, Forest};
 use foqtirel_tests::reference::{advise, query, Analysis, Code, Literal, NodeEntry};
-
-fn directory() -> PathBuf {
-    Path::new(env!("CARGO_MANIFEST_DIR")).join("vectors")
-}
-
-fn image(name: &str) -> Vec<u8> {
-    let path = directory().join(format!("{name}.img"));
-    fs::read(&path).unwrap_or_else(|error| panic!("{}: {error}", path.display()))
-}
-
-fn readme() -> String {
-    fs::read_to_string(directory().join("README.md")).expect("the vectors' README")
-}
-
-/// The names of all files with an ending, sorted.
-fn names(ending: &str) -> Vec<String> {
-    let mut names: Vec<String> = fs::read_dir(directory())
-        .expect("the vectors")
-        .map(|entry| entry.expect("an entry").path())
-        .filter(|path| path.extension().is_some_and(|e| e == ending))
-        .map(|path| path.file_stem().unwrap().to_string_lossy().into_owned())
-        .collect();
-    names.sort();
-    names
-}
+use foqtirel_tests::vectors::{advice, image, names, readme, whole_forests};
 
 /// Name, program and remark of each row of the README's table.
 fn table() -> Vec<(String, String, String)> {
@@ -54,9 +28,7 @@ fn every_vector_is_advised_as_written() {
     listed.sort();
     assert_eq!(images, listed, "the README lists all vectors");
     for name in images {
-        let path = directory().join(format!("{name}.advise"));
-        let expected = fs::read_to_string(path).expect("a text");
-        assert_eq!(advise(&image(&name)), expected, "{name}");
+        assert_eq!(advise(&image(&name)), advice(&name), "{name}");
     }
 }
 
@@ -171,44 +143,23 @@ fn longest_line_of_deep180() {
 /// The whole forests at the end of the README.
 #[test]
 fn whole_forests_are_as_written() {
-    let text = readme();
-    let section = text.split_once("## Whole forests").expect("the section").1;
-    let mut forests = 0;
-    for line in section.lines().filter_map(|line| line.strip_prefix("- ")) {
-        let (name, rest) = line.split_once(", literal ").expect("a name");
-        let (literal, rest) = rest.split_once(": ").expect("a literal");
-        let literal: u32 = literal.parse().expect("a literal");
-        let quoted: Vec<&str> = rest.split('`').skip(1).step_by(2).collect();
-        let [answer, list, nodes] = quoted[..] else {
-            panic!("{line}");
-        };
-        let list: Vec<u32> = list.split(' ').map(|e| e.parse().unwrap()).collect();
-        let nodes: Vec<NodeEntry> = nodes.split(' ').map(node).collect();
-
-        let mut lent_list = vec![0; 4096];
-        let mut lent_nodes = vec![NodeEntry::default(); 4096];
-        let given =
-            query(&image(name), literal, 4096, &mut lent_list, &mut lent_nodes).expect("an answer");
-        let given_answer = format!("{} {}", given.code.number(), given.nodes);
-        assert_eq!(given_answer, answer, "{name} {literal}");
-        assert_eq!(given.nodes, nodes.len(), "{name} {literal}");
-        assert_eq!(lent_list[..list.len()], list, "{name} {literal}");
-        assert!(lent_list[list.len()..].iter().all(|&entry| entry == 0));
-        assert_eq!(lent_nodes[..nodes.len()], nodes, "{name} {literal}");
-        forests += 1;
-    }
-    assert_eq!(forests, 7, "forests in the README");
-}
-
-fn node(text: &str) -> NodeEntry {
-    let numbers: Vec<u32> = text.split(':').map(|n| n.parse().unwrap()).collect();
-    let [argument, parent, kind, mark] = numbers[..] else {
-        panic!("{text}");
-    };
-    NodeEntry {
-        argument,
-        parent,
-        kind,
-        mark,
+    let forests = whole_forests();
+    assert_eq!(forests.len(), 7, "forests in the README");
+    for forest in forests {
+        let about = format!("{} {}", forest.name, forest.literal);
+        let image = image(&forest.name);
+        let mut list = vec![0; 4096];
+        let mut nodes = vec![NodeEntry::default(); 4096];
+        let given = query(&image, forest.literal, 4096, &mut list, &mut nodes).expect("an answer");
+        let count = forest.nodes.len();
+        assert_eq!(
+            (given.code.number(), given.nodes),
+            (forest.code, count),
+            "{about}"
+        );
+        let listed = forest.list.len();
+        assert_eq!(list[..listed], forest.list, "{about}");
+        assert!(list[listed..].iter().all(|&entry| entry == 0), "{about}");
+        assert_eq!(nodes[..count], forest.nodes, "{about}");
     }
 }

@@ -41,6 +41,16 @@ pub fn small_programs(seed: u64, count: usize) -> impl Iterator<Item = Case> {
     })
 }
 
+/// Only programs with one atom that has many arguments on both sides, for large trees.
+pub fn contested_programs(
+    seed: u64,
+    count: usize,
+    most_per_side: usize,
+) -> impl Iterator<Item = Case> {
+    let mut random = Random::seeded(seed);
+    (0..count).map(move |_| contested(&mut random, most_per_side))
+}
+
 fn small(random: &mut Random) -> Shape {
     Shape {
         name: "small",

@@ -42,6 +42,14 @@ pub struct Answer {
     pub nodes: usize,
 }
 
+/// The one number of the host program's call: code × 65,536 + nodes, or a bare refusal number.
+pub fn host_number(result: Result<Answer, Refusal>) -> u32 {
+    match result {
+        Ok(answer) => answer.code.number() * 65_536 + answer.nodes as u32,
+        Err(refusal) => refusal.cause.number(),
+    }
+}
+
 /// Checks an image, causes 1 to 14.
 pub fn check(image: &[u8]) -> Result<(), Refusal> {
     let program = read_image(image)?;
@@ -93,6 +101,34 @@ impl Analysis {
         arguments: &mut [u32],
         nodes: &mut [NodeEntry],
     ) -> Result<Answer, Refusal> {
+        let (literal, budget) = self.admit(literal, budget, arguments, nodes)?;
+        let forest = Forest::of(literal, self, budget);
+        Ok(self.answer(literal, budget, forest.as_ref(), nodes))
+    }
+
+    /// The same with the literal's forest known from before, None if it has more than 4,096
+    /// nodes: for asking about one literal with many budgets.
+    pub fn query_in(
+        &self,
+        forest: Option<&Forest>,
+        literal: u32,
+        budget: u32,
+        arguments: &mut [u32],
+        nodes: &mut [NodeEntry],
+    ) -> Result<Answer, Refusal> {
+        let (literal, budget) = self.admit(literal, budget, arguments, nodes)?;
+        let within = forest.filter(|forest| forest.nodes.len() <= budget);
+        Ok(self.answer(literal, budget, within, nodes))
+    }
+
+    /// Causes 20 to 23; writes the list if there is none of them.
+    fn admit(
+        &self,
+        literal: u32,
+        budget: u32,
+        arguments: &mut [u32],
+        nodes: &[NodeEntry],
+    ) -> Result<(Literal, usize), Refusal> {
         if literal >= u32::from(Literal::END) {
             return Err(Refusal::whole(Cause::QueryLiteral));
         }
@@ -104,17 +140,24 @@ impl Analysis {
             return Err(Refusal::whole(Cause::NodeTable));
         }
         self.list(arguments)?;
-        Ok(self.answer(Literal::new(literal as u8), budget, nodes))
+        Ok((Literal::new(literal as u8), budget))
     }
 
-    fn answer(&self, literal: Literal, budget: usize, nodes: &mut [NodeEntry]) -> Answer {
+    /// The answer, given the forest or None if it has more nodes than the budget.
+    fn answer(
+        &self,
+        literal: Literal,
+        budget: usize,
+        forest: Option<&Forest>,
+        nodes: &mut [NodeEntry],
+    ) -> Answer {
         if !self.program.mentions_atom_of(literal) {
             return Answer {
                 code: Code::Unknown,
                 nodes: 0,
             };
         }
-        let Some(forest) = Forest::of(literal, self, budget) else {
+        let Some(forest) = forest else {
             nodes[..budget].fill(NodeEntry::default());
             return Answer {
                 code: Code::Unfinished,
@@ -144,9 +187,6 @@ impl Analysis {
     pub fn host_call(&self, literal: u32, budget: u32) -> u32 {
         let mut arguments = vec![0; MOST_NODES];
         let mut nodes = vec![NodeEntry::default(); MOST_NODES];
-        match self.query(literal, budget, &mut arguments, &mut nodes) {
-            Ok(answer) => answer.code.number() * 65_536 + answer.nodes as u32,
-            Err(refusal) => refusal.cause.number(),
-        }
+        host_number(self.query(literal, budget, &mut arguments, &mut nodes))
     }
 }

@@ -9,6 +9,11 @@ const MOST_RULES: usize = 96;
 const MOST_PAIRS: usize = 240;
 const MOST_DEFEASIBLE: usize = 16;
 
+/// The number of defeasible rules of an image, none if it is refused.
+pub fn defeasible_rules(image: &[u8]) -> usize {
+    read_image(image).map_or(0, |program| program.defeasible_numbers().len())
+}
+
 /// Reads an image whole. Cause 14 is left to the check, as it needs derivation.
 pub fn read_image(image: &[u8]) -> Result<Program, Refusal> {
     if image.len() < 12 || image.len() > 1836 {

@@ -16,7 +16,7 @@ pub mod tree;
 pub use advise::advise;
 pub use analysis::Analysis;
 pub use argument::Argument;
-pub use calls::{check, host_call, list, query, Answer, Code};
+pub use calls::{check, host_call, host_number, list, query, Answer, Code, MOST_NODES};
 pub use image::read_image;
 pub use literal::Literal;
 pub use program::{Kind, Program, Rule};

@@ -24,6 +24,28 @@ pub enum Cause {
 }
 
 impl Cause {
+    /// All causes in the order of their numbers.
+    pub const ALL: [Cause; 18] = [
+        Cause::ImageLength,
+        Cause::Header,
+        Cause::Directory,
+        Cause::RuleLength,
+        Cause::RuleKind,
+        Cause::LiteralRange,
+        Cause::BodyOrder,
+        Cause::DefeasibleWithoutBody,
+        Cause::TooManyDefeasible,
+        Cause::RepeatedRule,
+        Cause::LastPartLength,
+        Cause::PairNames,
+        Cause::PairOrder,
+        Cause::StrictContradiction,
+        Cause::QueryLiteral,
+        Cause::Budget,
+        Cause::NodeTable,
+        Cause::ArgumentTable,
+    ];
+
     pub fn number(self) -> u32 {
         self as u32
     }
@@ -41,6 +63,11 @@ impl Refusal {
     /// A refusal with a place of its own.
     pub fn at(cause: Cause, place: usize) -> Refusal {
         Refusal { cause, place }
+    }
+
+    /// Number × 2^32 + place, as the calls made for tests hand it back.
+    pub fn packed(self) -> u64 {
+        (u64::from(self.cause.number()) << 32) + self.place as u64
     }
 
     /// A refusal of the whole image or call.

@@ -10,7 +10,45 @@ const LEAST_PER_CAUSE: usize = 100;
 /// Differences beyond these are counted but not printed.
 const MOST_PRINTED: usize = 20;
 
-pub fn print_difference(image: &[u8], opinions: &[(&str, String)]) {
+/// What went wrong in a comparison.
+#[derive(Default)]
+pub struct Faults {
+    differences: usize,
+    unmet: usize,
+}
+
+impl Faults {
+    pub fn differed(&mut self, image: &[u8], opinions: &[(&str, String)]) {
+        self.differences += 1;
+        if self.differences <= MOST_PRINTED {
+            print_difference(image, opinions);
+        }
+    }
+
+    /// Something that must hold of the calls whatever the reference says.
+    pub fn demand(&mut self, what: &str, holds: bool) {
+        if !holds {
+            self.unmet += 1;
+            if self.unmet <= MOST_PRINTED {
+                println!("NOT MET: {what}");
+            }
+        }
+    }
+
+    /// Prints the verdict; true if nothing went wrong.
+    pub fn finish(&self, name: &str) -> bool {
+        let sound = self.differences == 0 && self.unmet == 0;
+        println!(
+            "{name}: {} differences, {} demands not met: {}",
+            self.differences,
+            self.unmet,
+            if sound { "passed" } else { "FAILED" }
+        );
+        sound
+    }
+}
+
+fn print_difference(image: &[u8], opinions: &[(&str, String)]) {
     let hexadecimal: Vec<String> = image.iter().map(|byte| format!("{byte:02X}")).collect();
     println!("DIFFERENCE in an image of {} bytes", image.len());
     for (who, what) in opinions {
@@ -22,7 +60,7 @@ pub fn print_difference(image: &[u8], opinions: &[(&str, String)]) {
 #[derive(Default)]
 pub struct Report {
     compared: usize,
-    differences: usize,
+    faults: Faults,
     by_cause: BTreeMap<u32, usize>,
 }
 
@@ -33,38 +71,27 @@ impl Report {
     }
 
     pub fn differed(&mut self, image: &[u8], opinions: &[(&str, String)]) {
-        self.differences += 1;
-        if self.differences <= MOST_PRINTED {
-            print_difference(image, opinions);
-        }
+        self.faults.differed(image, opinions);
         self.count_one();
     }
 
     fn count_one(&mut self) {
         self.compared += 1;
         if self.compared.is_multiple_of(PROGRESS_EVERY) {
-            println!("{} images, {} differences", self.compared, self.differences);
+            println!("check: {} images", self.compared);
         }
     }
 
     /// Prints the summary; true if nothing differed and every cause was seen often enough.
-    pub fn finish(&self) -> bool {
-        let mut sound = self.differences == 0;
+    pub fn finish(mut self) -> bool {
         let seen = |cause: u32| self.by_cause.get(&cause).copied().unwrap_or(0);
         println!("accepted: {} images agreed", seen(0));
         for cause in 1..=14 {
             println!("cause {cause}: {} images agreed", seen(cause));
-            if seen(cause) < LEAST_PER_CAUSE {
-                println!("cause {cause} was seen fewer than {LEAST_PER_CAUSE} times");
-                sound = false;
-            }
+            let what = format!("cause {cause} at least {LEAST_PER_CAUSE} times");
+            self.faults.demand(&what, seen(cause) >= LEAST_PER_CAUSE);
         }
-        println!(
-            "{} images compared, {} differences: {}",
-            self.compared,
-            self.differences,
-            if sound { "passed" } else { "FAILED" }
-        );
-        sound
+        println!("check: {} images compared", self.compared);
+        self.faults.finish("check")
     }
 }

@@ -1,0 +1,94 @@
+//! The vectors of `tests/vectors`: images, what `advise` prints for them, and whole forests.
+
+use std::fs;
+use std::path::{Path, PathBuf};
+
+use crate::reference::NodeEntry;
+
+pub fn directory() -> PathBuf {
+    Path::new(env!("CARGO_MANIFEST_DIR")).join("vectors")
+}
+
+pub fn image(name: &str) -> Vec<u8> {
+    let path = directory().join(format!("{name}.img"));
+    fs::read(&path).unwrap_or_else(|error| panic!("{}: {error}", path.display()))
+}
+
+/// What `advise` is to print for an image.
+pub fn advice(name: &str) -> String {
+    let path = directory().join(format!("{name}.advise"));
+    fs::read_to_string(&path).unwrap_or_else(|error| panic!("{}: {error}", path.display()))
+}
+
+pub fn readme() -> String {
+    fs::read_to_string(directory().join("README.md")).expect("the vectors' README")
+}
+
+/// The names of all files with an ending, sorted.
+pub fn names(ending: &str) -> Vec<String> {
+    let mut names: Vec<String> = fs::read_dir(directory())
+        .expect("the vectors")
+        .map(|entry| entry.expect("an entry").path())
+        .filter(|path| path.extension().is_some_and(|e| e == ending))
+        .map(|path| path.file_stem().unwrap().to_string_lossy().into_owned())
+        .collect();
+    names.sort();
+    names
+}
+
+/// All images, in the order of their names.
+pub fn images() -> Vec<Vec<u8>> {
+    names("img").iter().map(|name| image(name)).collect()
+}
+
+/// A forest that the README writes out, asked with the greatest budget.
+pub struct WholeForest {
+    pub name: String,
+    pub literal: u32,
+    pub code: u32,
+    pub list: Vec<u32>,
+    pub nodes: Vec<NodeEntry>,
+}
+
+/// The whole forests at the end of the README.
+pub fn whole_forests() -> Vec<WholeForest> {
+    let text = readme();
+    let section = text.split_once("## Whole forests").expect("the section").1;
+    section
+        .lines()
+        .filter_map(|line| line.strip_prefix("- "))
+        .map(whole_forest)
+        .collect()
+}
+
+fn whole_forest(line: &str) -> WholeForest {
+    let (name, rest) = line.split_once(", literal ").expect("a name");
+    let (literal, rest) = rest.split_once(": ").expect("a literal");
+    let quoted: Vec<&str> = rest.split('`').skip(1).step_by(2).collect();
+    let [answer, list, nodes] = quoted[..] else {
+        panic!("{line}");
+    };
+    let (code, count) = answer.split_once(' ').expect("code and nodes");
+    let nodes: Vec<NodeEntry> = nodes.split(' ').map(node).collect();
+    assert_eq!(count, nodes.len().to_string(), "{line}");
+    WholeForest {
+        name: name.to_string(),
+        literal: literal.parse().expect("a literal"),
+        code: code.parse().expect("a code"),
+        list: list.split(' ').map(|e| e.parse().unwrap()).collect(),
+        nodes,
+    }
+}
+
+fn node(text: &str) -> NodeEntry {
+    let numbers: Vec<u32> = text.split(':').map(|n| n.parse().unwrap()).collect();
+    let [argument, parent, kind, mark] = numbers[..] else {
+        panic!("{text}");
+    };
+    NodeEntry {
+        argument,
+        parent,
+        kind,
+        mark,
+    }
+}

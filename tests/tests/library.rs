@@ -1,0 +1,301 @@
+//! The proved calls on the vectors, the fittings and every cause of a refusal in its order.
+#![cfg(probe)]
+
+use std::thread;
+
+use foqtirel_tests::fittings::{F, FITTINGS};
+use foqtirel_tests::generator::Description;
+use foqtirel_tests::native::{self, Node};
+use foqtirel_tests::reference::{Cause, Code, NodeEntry};
+use foqtirel_tests::vectors;
+
+const TABLE: usize = 4096;
+
+fn image(program: &str) -> Vec<u8> {
+    Description::parse(program).expect("a program").image()
+}
+
+/// Two calls that give a literal's answer: code and nodes, or number and place.
+type Call = fn(&[u8], u32, u32) -> Result<(u32, u32), (u32, u32)>;
+
+fn by_query(image: &[u8], literal: u32, budget: u32) -> Result<(u32, u32), (u32, u32)> {
+    let mut arguments = vec![0; TABLE];
+    let mut nodes = vec![Node::default(); TABLE];
+    let given = native::query(image, literal, budget, &mut arguments, &mut nodes);
+    match (given >> 32) as u32 {
+        0 => Ok(((given >> 16) as u32, given as u32 & 65_535)),
+        number => Err((number, given as u32)),
+    }
+}
+
+/// The C call names no place, so 0 stands for it.
+fn by_host(image: &[u8], literal: u32, budget: u32) -> Result<(u32, u32), (u32, u32)> {
+    let given = native::host_query(image, literal, budget);
+    match given >> 16 {
+        0 => Err((given, 0)),
+        code => Ok((code, given & 65_535)),
+    }
+}
+
+fn word(code: u32) -> &'static str {
+    let codes = [
+        Code::Yes,
+        Code::No,
+        Code::Undecided,
+        Code::Unknown,
+        Code::Unfinished,
+    ];
+    let known = codes.into_iter().find(|known| known.number() == code);
+    known
+        .unwrap_or_else(|| panic!("no answer has the code {code}"))
+        .word()
+}
+
+/// What `advise` prints, by the list call and one of the calls that answer.
+fn advise(image: &[u8], call: Call) -> String {
+    let mut arguments = vec![0; TABLE];
+    let given = native::list(image, &mut arguments);
+    if given >> 32 != 0 {
+        return format!("refused {} {}\n", given >> 32, given as u32);
+    }
+    let mut text = format!("arguments {given}\n");
+    for literal in 0..2 * u32::from(image[0]) {
+        match call(image, literal, 4096) {
+            Ok((code, nodes)) => text += &format!("{literal} {} {nodes}\n", word(code)),
+            Err((number, place)) => text += &format!("{literal} refused {number} {place}\n"),
+        }
+    }
+    text
+}
+
+#[test]
+fn every_vector_is_advised_as_written() {
+    for name in vectors::names("img") {
+        let image = vectors::image(&name);
+        assert_eq!(advise(&image, by_query), vectors::advice(&name), "{name}");
+        assert_eq!(advise(&image, by_host), vectors::advice(&name), "{name}");
+    }
+}
+
+/// Where the list is refused, so is every query, with the same number and place.
+#[test]
+fn refused_vectors_are_refused_by_every_call() {
+    let mut refused = 0;
+    for name in vectors::names("img") {
+        let advice = vectors::advice(&name);
+        let Some(cause) = advice.trim_end().strip_prefix("refused ") else {
+            continue;
+        };
+        let (number, place) = cause.split_once(' ').expect("number and place");
+        let number: u32 = number.parse().expect("a number");
+        let place: u32 = place.parse().expect("a place");
+        let image = vectors::image(&name);
+        assert_eq!(by_query(&image, 0, 4096), Err((number, place)), "{name}");
+        assert_eq!(by_host(&image, 0, 4096), Err((number, 0)), "{name}");
+        refused += 1;
+    }
+    assert!(refused >= 3, "only {refused} vectors are refused");
+}
+
+#[test]
+fn whole_forests_are_as_written() {
+    let forests = vectors::whole_forests();
+    assert_eq!(forests.len(), 7, "forests in the README");
+    for forest in forests {
+        let about = format!("{} {}", forest.name, forest.literal);
+        let image = vectors::image(&forest.name);
+        // The least tables that will do, so that a node or an argument more has no room.
+        let count = forest.nodes.len();
+        for more in [0, 1, 50] {
+            let (mut arguments, mut nodes) = tables(forest.list.len() + more, count + more);
+            let (old_arguments, old_nodes) = (arguments.clone(), nodes.clone());
+            let budget = count as u32;
+            let given = native::query(&image, forest.literal, budget, &mut arguments, &mut nodes);
+            let wanted = u64::from(forest.code) * 65_536 + count as u64;
+            assert_eq!(given, wanted, "{about}");
+            let listed = forest.list.len();
+            assert_eq!(arguments[..listed], forest.list, "{about}");
+            assert_eq!(arguments[listed..], old_arguments[listed..], "{about}");
+            let written: Vec<NodeEntry> = nodes.iter().map(|&n| n.into()).collect();
+            assert_eq!(written[..count], forest.nodes, "{about}");
+            assert_eq!(nodes[count..], old_nodes[count..], "{about}");
+        }
+    }
+}
+
+#[test]
+fn the_twelve_fittings_by_both_calls() {
+    for (name, program, literal, budget, code, nodes) in FITTINGS {
+        let wanted = Ok((code.number(), nodes as u32));
+        assert_eq!(by_query(&image(program), literal, budget), wanted, "{name}");
+        assert_eq!(by_host(&image(program), literal, budget), wanted, "{name}");
+    }
+}
+
+/// Tables with contents that no call writes by chance.
+fn tables(arguments: usize, nodes: usize) -> (Vec<u32>, Vec<Node>) {
+    let old_arguments = (0..arguments).map(|n| 0x5000_0000 + n as u32).collect();
+    let old_nodes = (0..nodes as u32)
+        .map(|n| Node {
+            argument: 0x6000_0000 + n,
+            parent: 0x6100_0000 + n,
+            kind: 0x62,
+            mark: 0x63,
+        })
+        .collect();
+    (old_arguments, old_nodes)
+}
+
+#[track_caller]
+fn assert_refused(image: &[u8], literal: u32, budget: u32, lengths: (usize, usize), cause: Cause) {
+    let (mut arguments, mut nodes) = tables(lengths.0, lengths.1);
+    let given = native::query(image, literal, budget, &mut arguments, &mut nodes);
+    let told = ((given >> 32) as u32, given as u32);
+    assert_eq!(told, (cause.number(), 0), "number and place");
+    let before = tables(lengths.0, lengths.1);
+    assert_eq!(arguments, before.0, "the argument table was touched");
+    assert_eq!(nodes, before.1, "the node table was touched");
+}
+
+/// Each cause of a query alone. F has three arguments, and literal 2 has three nodes.
+#[test]
+fn each_cause_alone() {
+    let f = image(F);
+    for literal in [128, 129, 130, 255, 256, 258, 65_536, 1 << 31, u32::MAX] {
+        assert_refused(&f, literal, 3, (3, 3), Cause::QueryLiteral);
+        assert_eq!(by_host(&f, literal, 4096), Err((20, 0)), "{literal}");
+    }
+    for budget in [4097, 65_535, 65_536, 65_539, 1 << 31, u32::MAX] {
+        assert_refused(&f, 2, budget, (3, 5000), Cause::Budget);
+        assert_refused(&f, 2, budget, (3, 70_000), Cause::Budget);
+        assert_eq!(by_host(&f, 2, budget), Err((21, 0)), "{budget}");
+    }
+    for (budget, length) in [(1, 0), (3, 2), (4, 3), (4096, 4095), (4096, 0)] {
+        assert_refused(&f, 2, budget, (3, length), Cause::NodeTable);
+    }
+    for length in [0, 1, 2] {
+        assert_refused(&f, 2, 3, (length, 3), Cause::ArgumentTable);
+    }
+    let full = vectors::image("args4097");
+    assert_refused(&full, 2, 0, (4096, 0), Cause::ArgumentTable);
+    assert_eq!(by_host(&full, 2, 0), Err((23, 0)));
+}
+
+/// What each cause adds to a call that would be answered: so every two can be put together.
+fn with_cause(cause: Cause, call: &mut (Vec<u8>, u32, u32, (usize, usize))) {
+    match cause {
+        Cause::StrictContradiction => call.0 = image("0; 1; d 2<0; d 3<0; (2,3)"),
+        Cause::QueryLiteral => call.1 = 128,
+        Cause::Budget => call.2 = 4097,
+        Cause::NodeTable => call.3 .1 = call.2 as usize - 1,
+        Cause::ArgumentTable => call.3 .0 = 2,
+        _ => panic!("no cause of a query that is named after the image's: {cause:?}"),
+    }
+}
+
+/// 14, then 20 to 23: whichever causes come together, the first is given.
+#[test]
+fn causes_in_their_order() {
+    let order = [
+        Cause::StrictContradiction,
+        Cause::QueryLiteral,
+        Cause::Budget,
+        Cause::NodeTable,
+        Cause::ArgumentTable,
+    ];
+    for chosen in 1..1 << order.len() {
+        let mut call = (image(F), 2, 3, (3, 3));
+        let mut causes = Vec::new();
+        for (position, &cause) in order.iter().enumerate() {
+            if chosen >> position & 1 == 1 {
+                with_cause(cause, &mut call);
+                causes.push(cause);
+            }
+        }
+        let (image, literal, budget, lengths) = call;
+        assert_refused(&image, literal, budget, lengths, causes[0]);
+        // The C call has tables of 4,096 entries, so for it only the first three can apply.
+        let host = causes.iter().find(|&&cause| cause <= Cause::Budget);
+        let given = by_host(&image, literal, budget);
+        assert_eq!(given.err(), host.map(|cause| (cause.number(), 0)));
+    }
+}
+
+/// An image's own causes come before those of the query, with their place.
+#[test]
+fn an_image_comes_before_the_query() {
+    let f = image(F);
+    assert_refused(&f[..11], 128, 4097, (0, 0), Cause::ImageLength);
+    let repeated = image("0; d 2<0; 4<0; d 2<0");
+    assert_eq!(by_query(&repeated, 128, 4097), Err((10, 3)));
+    assert_eq!(by_host(&repeated, 128, 4097), Err((10, 0)));
+    assert_eq!(by_host(&image("0; 1"), 128, 4097), Err((14, 0)));
+}
+
+/// UNKNOWN comes after all refusals, and 0 nodes need no table.
+#[test]
+fn unknown_comes_last() {
+    let f = image(F);
+    assert_refused(&f, 127, 4097, (3, 5000), Cause::Budget);
+    assert_refused(&f, 127, 1, (3, 0), Cause::NodeTable);
+    assert_refused(&f, 127, 0, (2, 0), Cause::ArgumentTable);
+    let (mut arguments, mut nodes) = tables(3, 0);
+    let given = native::query(&f, 127, 0, &mut arguments, &mut nodes);
+    assert_eq!(given, 4 * 65_536);
+    assert_eq!(arguments, [0, 130, 259]);
+}
+
+/// Literal 2 of F has three nodes.
+#[test]
+fn unfinished_zeroes_the_budget() {
+    for budget in 0..3 {
+        let (mut arguments, mut nodes) = tables(4, 5);
+        let (old_arguments, old_nodes) = tables(4, 5);
+        let given = native::query(&image(F), 2, budget as u32, &mut arguments, &mut nodes);
+        assert_eq!(given, 5 * 65_536 + budget as u64);
+        assert_eq!(arguments[..3], [0, 130, 259]);
+        assert_eq!(arguments[3..], old_arguments[3..]);
+        assert_eq!(nodes[..budget], vec![Node::default(); budget]);
+        assert_eq!(nodes[budget..], old_nodes[budget..]);
+    }
+}
+
+#[test]
+fn no_bytes_are_an_image_of_length_zero() {
+    // SAFETY: nothing is read from an image of no bytes, and nothing written to tables of none.
+    let (host, query) = unsafe {
+        (
+            native::foqtirel_query(std::ptr::null(), 0, 200, 9999),
+            native::foqtirel_probe_query(
+                std::ptr::null(),
+                0,
+                2,
+                0,
+                std::ptr::null_mut(),
+                0,
+                std::ptr::null_mut(),
+                0,
+            ),
+        )
+    };
+    assert_eq!(host, 1);
+    assert_eq!(query, 1 << 32);
+}
+
+/// Nothing is kept between calls, so threads don't disturb each other.
+#[test]
+fn threads_may_call_at_once() {
+    let names = ["F", "T", "concord", "n4096"];
+    let work = |start: usize| {
+        for turn in 0..200 {
+            let name = names[(start + turn) % names.len()];
+            let image = vectors::image(name);
+            assert_eq!(advise(&image, by_host), vectors::advice(name), "{name}");
+        }
+    };
+    thread::scope(|scope| {
+        for start in 0..names.len() {
+            scope.spawn(move || work(start));
+        }
+    });
+}
