@@ -5,9 +5,6 @@ use lib.Count.{ones}
 use Rattle.literals.specs.Sets.{union}
 use Rattle.program.specs.Program.{Rule, Π-mask}
 use Rattle.derivation.specs.Closure.{closure}
-use Rattle.answer.specs.declared.Answer.{Answer}
-use Rattle.answer.specs.declared.Answer.the-variants as answers
-use Rattle.warrant.specs.Calls.{codeAndNodes}
 use Rattle.warrant.specs.declared.Listed.{Listed}
 use Rattle.warrant.specs.declared.Listed.the-variants as lists
 use Rattle.image.specs.Causes.{verdict}
@@ -24,15 +21,6 @@ verdictNumber (Refused n p) = n * 0x1_0000_0000 + p
 abbrev pub listedNumber : Listed → ℕ
 listedNumber (lists.Count n) = n
 listedNumber (lists.Refused n p) = n * 0x1_0000_0000 + p
-
--- code * 2^16 + nodes, or number * 2^32 + place
-abbrev pub answeredNumber : Answer → ℕ
-answeredNumber (answers.Yes n) = codeAndNodes (answers.Yes n)
-answeredNumber (answers.No n) = codeAndNodes (answers.No n)
-answeredNumber (answers.Undecided n) = codeAndNodes (answers.Undecided n)
-answeredNumber answers.Unknown = codeAndNodes answers.Unknown
-answeredNumber (answers.Unfinished n) = codeAndNodes (answers.Unfinished n)
-answeredNumber (answers.Refused n p) = n * 0x1_0000_0000 + p
 
 -- the literals of some set and those that one of the n masks from m on derives
 unfoldable pub derivedByMasks : List Rule → ℕ → ℕ → ℕ → ℕ

@@ -1,8 +1,8 @@
 // Exports of the calls for tests and benchmarks from outside.
 ghost use mathlib.Core.Path.{_≡_};
 ghost use lib.ListN.{length};
-ghost use Rattle.warrant.specs.Calls.{checkImage, listed, listTable, queried, queryArguments, queryNodes};
-ghost use Rattle.probe.specs.Probe.{verdictNumber, listedNumber, answeredNumber, closedNumber};
+ghost use Rattle.warrant.specs.Calls.{checkImage, listed, listTable, queried, queryArguments, queryNodes, answeredNumber};
+ghost use Rattle.probe.specs.Probe.{verdictNumber, listedNumber, closedNumber};
 use answer::Answer;
 use image::Verdict;
 use literals::LiteralSet;

@@ -23,7 +23,7 @@ use Rattle.answer.specs.Answer.{occurs, forestEntries, nodeCount, warranted, an
 use Rattle.answer.specs.Answer.{codeOf, nodesOf}
 use Rattle.warrant.specs.Calls.{listIn, listVerdict, front, unlessRefused, listTable, queryVerdict, answeredBy}
 use Rattle.warrant.specs.Calls.{queried, queryArguments}
-use Rattle.warrant.specs.Calls.{nodesAfter, zeroed, queryColumn, queryTable, packed, hostCall}
+use Rattle.warrant.specs.Calls.{nodesAfter, zeroed, queryColumn, queryTable, packed, hostCall, answeredNumber}
 use Rattle.answer.proofs.Answers.{entries-count, answer-not-refused, answer-nodes-within}
 use Rattle.warrant.proofs.Refusals.{ByCause, accepted, refused, cause-cases, query-cause, list-accepted}
 use Rattle.warrant.proofs.Refusals.{query-accepted}
@@ -47,7 +47,7 @@ Small (No n) = n < 65536
 Small (Undecided n) = n < 65536
 Small Unknown = Unit {0}
 Small (Unfinished n) = n < 65536
-Small (Refused n place) = n < 65536
+Small (Refused n place) = (1 ≤ n) × (n < 65536)
 
 small-nodes : (a : Answer) → (codeOf a ≡ 0 → ⊥) → nodesOf a < 65536 → Small a
 small-nodes (Yes n) f h = h
@@ -63,7 +63,7 @@ packed-code (No n) h = omega arith
 packed-code (Undecided n) h = omega arith
 packed-code Unknown h = omega arith
 packed-code (Unfinished n) h = omega arith
-packed-code (Refused n place) h = omega arith
+packed-code (Refused n place) h = let k = h .1 in omega arith
 
 packed-nodes : (a : Answer) → Small a → (codeOf a ≡ 0 → ⊥) → packed a % 65536 ≡ nodesOf a
 packed-nodes (Yes n) h e = omega arith
@@ -79,15 +79,24 @@ packed-below (No n) h = omega arith
 packed-below (Undecided n) h = omega arith
 packed-below Unknown h = omega arith
 packed-below (Unfinished n) h = omega arith
-packed-below (Refused n place) h = omega arith
+packed-below (Refused n place) h = let k = h .1 in omega arith
+
+-- the export's upper part is 1 exactly where the answer is YES
+probed-yes : (a : Answer) → Small a → (answeredNumber a / 65536 ≡ 1) ↔ (codeOf a ≡ 1)
+probed-yes (Yes n) h = let q = packed-code (Yes n) h in (λ e. refl, λ e. q)
+probed-yes (No n) h = let q = packed-code (No n) h in (λ e. sym q ∙ e, λ e. q ∙ e)
+probed-yes (Undecided n) h = let q = packed-code (Undecided n) h in (λ e. sym q ∙ e, λ e. q ∙ e)
+probed-yes Unknown h = let q = packed-code Unknown h in (λ e. sym q ∙ e, λ e. q ∙ e)
+probed-yes (Unfinished n) h = let q = packed-code (Unfinished n) h in (λ e. sym q ∙ e, λ e. q ∙ e)
+probed-yes (Refused n place) h = let l = h .0 in (λ e. absurd (omega arith), λ e. absurd (omega (arith, e)))
 
 answered-small : {v : Verdict} (a : Answer) → ByCause v → (v ≡ verdicts.Accepted → Small a) → Small (answeredBy v a)
 answered-small a accepted f = f refl
 answered-small a (refused {n} c) f = go (cause-cases n c)
   where
-    go : ((1 ≤ n) × (n ≤ 14)) ⊎ ((20 ≤ n) × (n ≤ 23)) → n < 65536
-    go (inl r) = let u = r .1 in omega arith
-    go (inr r) = let u = r .1 in omega arith
+    go : ((1 ≤ n) × (n ≤ 14)) ⊎ ((20 ≤ n) × (n ≤ 23)) → (1 ≤ n) × (n < 65536)
+    go (inl r) = let u = r .1 in (r .0, omega arith)
+    go (inr r) = let u = r .1 in let l = r .0 in (omega arith, omega arith)
 
 module _ (s : List ℕ) (h b : ℕ) where
   query-small : (al nl : ℕ) → Small (queried s h b al nl)
@@ -100,6 +109,10 @@ module _ (s : List ℕ) (h b : ℕ) where
   -- an answer of the query call packs into 32 bits
   pub query-packs : (al nl : ℕ) → packed (queried s h b al nl) < 0x1_0000_0000
   query-packs al nl = packed-below (queried s h b al nl) (query-small al nl)
+
+  pub probe-yes : (al nl : ℕ)
+      → (answeredNumber (queried s h b al nl) / 65536 ≡ 1) ↔ (codeOf (queried s h b al nl) ≡ 1)
+  probe-yes al nl = probed-yes (queried s h b al nl) (query-small al nl)
 
   -- the upper half is the answer's code, and 0 where a cause applies; the lower half is then its number of nodes
   pub host-code : hostCall s h b / 65536 ≡ codeOf (queried s h b 4096 4096)

@@ -21,7 +21,7 @@ use Rattle.defeat.specs.Preference.{Preferred, preferredTest}
 use Rattle.defeat.specs.OfProgram.{Exclude}
 use Rattle.defeat.proofs.Preferences.{preferred-renders}
 use Rattle.answer.specs.Answer.{tests, answer, codeOf}
-use Rattle.warrant.specs.Calls.{checkImage, queryVerdict, answeredBy, queried, Call, query, host, literalAsked}
+use Rattle.warrant.specs.Calls.{checkImage, queryVerdict, answeredBy, queried, Call, query, host, probe, literalAsked}
 use Rattle.warrant.specs.Calls.{SaysYes}
 use Rattle.warrant.specs.Claims.{Answers, Grants, Demand-3}
 use Rattle.answer.proofs.Warrant.{warranted-apart}
@@ -29,7 +29,7 @@ use Rattle.answer.proofs.Answers.{entries-count, answer-unknown, answer-unfinis
 use Rattle.answer.proofs.Answers.{answer-nodes-unfinished}
 use Rattle.answer.proofs.Answers.{answer-yes, answer-no, answer-undecided}
 use Rattle.warrant.proofs.Refusals.{check-accepted, check-passes, query-accepted}
-use Rattle.warrant.proofs.Calls.{answered-code, host-code}
+use Rattle.warrant.proofs.Calls.{answered-code, host-code, probe-yes}
 
 -- a program within the limits has heads below 128
 pub limits-heads : {p : Program} → Limits p → HeadsBelow 128 (p .rules)
@@ -97,6 +97,14 @@ module _ (s : List ℕ) where
         λ e. let g = q .0 (sym code ∙ e) in
             record { accepted = g .accepted; within-budget = g .within-budget; warranted = g .warranted },
         λ g. code ∙ q .1 (record { accepted = g .accepted; within-budget = g .within-budget; warranted = g .warranted }),
+      )
+
+  grants (probe h b al nl) =
+      let yes = probe-yes s h b al nl in
+      let q = query-grants h b al nl in (
+        λ e. let g = q .0 (yes .0 e) in
+            record { accepted = g .accepted; within-budget = g .within-budget; warranted = g .warranted },
+        λ g. yes .1 (q .1 (record { accepted = g .accepted; within-budget = g .within-budget; warranted = g .warranted })),
       )
 
   calls-apart : (c d : Call) → Exclude (programIn s .rules) (literalAsked c) (literalAsked d) → SaysYes s c → SaysYes s d → ⊥

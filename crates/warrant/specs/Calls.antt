@@ -116,6 +116,17 @@ packed (Refused number place) = number
 unfoldable pub hostCall : List ℕ → (literal budget : ℕ) → ℕ
 hostCall s h budget = packed (queried s h budget 4096 4096)
 
+-- ---- the export of the query for tests and benchmarks
+
+-- code * 2^16 + nodes, or number * 2^32 + place
+abbrev pub answeredNumber : Answer → ℕ
+answeredNumber (Yes n) = codeAndNodes (Yes n)
+answeredNumber (No n) = codeAndNodes (No n)
+answeredNumber (Undecided n) = codeAndNodes (Undecided n)
+answeredNumber Unknown = codeAndNodes Unknown
+answeredNumber (Unfinished n) = codeAndNodes (Unfinished n)
+answeredNumber (Refused number place) = number * 0x1_0000_0000 + place
+
 -- ---- the calls that give a literal's answer
 
 -- "each may be any call that gives a literal's answer, as these two do, with any budget and, where tables are lent, tables
@@ -123,12 +134,15 @@ hostCall s h budget = packed (queried s h budget 4096 4096)
 pub data Call : Type 0 where
   query : (literal budget argumentRoom nodeRoom : ℕ) → Call
   host : (literal budget : ℕ) → Call
+  probe : (literal budget argumentRoom nodeRoom : ℕ) → Call
 
 abbrev pub literalAsked : Call → ℕ
 literalAsked (query h budget argumentRoom nodeRoom) = h
 literalAsked (host h budget) = h
+literalAsked (probe h budget argumentRoom nodeRoom) = h
 
 -- the call says YES to its literal
 abbrev pub SaysYes : List ℕ → Call → Type 0
 SaysYes s (query h budget argumentRoom nodeRoom) = codeOf (queried s h budget argumentRoom nodeRoom) ≡ 1
 SaysYes s (host h budget) = hostCall s h budget / 65536 ≡ 1
+SaysYes s (probe h budget argumentRoom nodeRoom) = answeredNumber (queried s h budget argumentRoom nodeRoom) / 65536 ≡ 1

@@ -51,7 +51,7 @@ use Rattle.warrant.proofs.Node as node
 use Rattle.warrant.proofs.query as query
 use Rattle.warrant.proofs.query.Symbol as query-symbol
 use Rattle.warrant.proofs.query.Met as query-met
-use Rattle.probe.specs.Probe.{answeredNumber}
+use Rattle.warrant.specs.Calls.{answeredNumber}
 use Rattle.probe.proofs.answered as answered
 use Rattle.probe.proofs.answered.Symbol as answered-symbol
 use Rattle.probe.proofs.answered.Met as answered-met
