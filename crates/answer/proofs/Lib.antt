@@ -3,7 +3,3 @@ pub mod Warrant
 pub mod Answers
 pub mod Places
 pub mod Fittings
-pub mod Occurrences
-pub mod Zeros
-pub mod Decisions
-pub mod Settlements

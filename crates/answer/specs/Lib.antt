@@ -1,5 +1,4 @@
--- Warrant and answers of a program, in the order of document 01; then the steps to an answer.
+-- Warrant and answers of a program, in the order of document 01; then what an answer leaves in the lent tables.
 pub mod Warrant
 pub mod Answer
 pub mod Tables
-pub mod Steps

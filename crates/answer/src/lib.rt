@@ -1,4 +1,4 @@
-// Answers of a program: what specs/ defines and proofs/ shows of them, and the steps that give one.
+// Answers of a program: specs/ defines when each is given, proofs/ shows it.
 
 // A literal's answer with its number of nodes, or the number and place of the first cause that applies.
 pub enum Answer {
@@ -9,7 +9,3 @@ pub enum Answer {
     Unfinished { nodes: u32 },
     Refused { number: u32, place: u32 },
 }
-
-mod decision;
-mod occurrence;
-pub mod sized;

@@ -98,7 +98,6 @@ module _ (s : List ℕ) where
             record { accepted = g .accepted; within-budget = g .within-budget; warranted = g .warranted },
         λ g. code ∙ q .1 (record { accepted = g .accepted; within-budget = g .within-budget; warranted = g .warranted }),
       )
-
   grants (probe h b al nl) =
       let yes = probe-yes s h b al nl in
       let q = query-grants h b al nl in (

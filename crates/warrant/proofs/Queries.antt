@@ -19,7 +19,7 @@ use Rattle.answer.specs.declared.Answer.{Answer}
 use Rattle.answer.specs.declared.Answer.the-variants.{Refused}
 use Rattle.answer.specs.Answer.{tests, forestEntries, answer}
 use Rattle.answer.specs.Tables.{front, columnsAfter}
-use Rattle.answer.specs.Steps.{Held, settled, Settled}
+use Rattle.decision.specs.Steps.{Held, settled, Settled}
 use Rattle.argument.specs.Listing.{withList}
 use Rattle.warrant.specs.Calls.{checkImage, listIn, queryVerdict, answeredBy, queried, unlessRefused, queryArguments}
 use Rattle.warrant.specs.Calls.{queryColumn}

@@ -48,7 +48,7 @@ pub fn query<'i, 'a, 't>(
             place: 0,
         };
     }
-    answer::sized::query(
+    decision::sized::query(
         &table,
         arguments,
         literal as u64,
