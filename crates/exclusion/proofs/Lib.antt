@@ -1,0 +1,2 @@
+-- What the walk of two calls cites.
+pub mod Exclusion
