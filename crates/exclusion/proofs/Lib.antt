@@ -1,2 +1,3 @@
--- What the walk of two calls cites.
+-- What the walks cite.
 pub mod Exclusion
+pub mod LetGo
