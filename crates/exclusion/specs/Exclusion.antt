@@ -8,7 +8,7 @@ use Rattle.lists.specs.Decides.{Decides}
 use Rattle.image.specs.Reading.{programIn}
 use Rattle.defeat.specs.OfProgram.{Exclude}
 use Rattle.answer.specs.Answer.{codeOf}
-use Rattle.warrant.specs.Calls.{queried, hostCall, Call, query, host, literalAsked, SaysYes}
+use Rattle.warrant.specs.Calls.{queried, hostCall, Call, query, host, SaysYes}
 
 -- "any call that gives a literal's answer, as these two do": the call from C, or the query with tables of these lengths
 abbrev pub callOf : Bool → (literal budget argumentRoom nodeRoom : ℕ) → Call
@@ -20,9 +20,9 @@ abbrev pub saysYes : List ℕ → Call → Bool
 saysYes s (query h budget argumentRoom nodeRoom) = eqb (codeOf (queried s h budget argumentRoom nodeRoom)) 1
 saysYes s (host h budget) = eqb (hostCall s h budget / 65536) 1
 
--- what is returned of two calls on one image
-pub record TwoCalls (image : List ℕ) (c d : Call) (r : Bool) : Type 0 where
-  -- it says whether both say YES
+-- what is returned of two calls on one image, which ask for h and k
+pub record TwoCalls (image : List ℕ) (h k : ℕ) (c d : Call) (r : Bool) : Type 0 where
+  -- whether both say YES
   pub both : Decides r (SaysYes image c × SaysYes image d)
   -- "two literals that exclude each other never both get YES"
-  pub never : Exclude (programIn image .rules) (literalAsked c) (literalAsked d) → r ≡ false
+  pub never : Exclude (programIn image .rules) h k → r ≡ false

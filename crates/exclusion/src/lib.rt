@@ -84,7 +84,7 @@ pub fn both_yes(
     arguments2: &mut [u32],
     nodes2: &mut [Node],
 ) -> bool
-    ensures { λ r. ⌜ TwoCalls (now (image .entry)) (callOf foreign literal budget (length (now (arguments .entry))) (length (now (nodes .entry)))) (callOf foreign2 literal2 budget2 (length (now (arguments2 .entry))) (length (now (nodes2 .entry)))) r ⌝ }
+    ensures { λ r. ⌜ TwoCalls (now (image .entry)) literal literal2 (callOf foreign literal budget (length (now (arguments .entry))) (length (now (nodes .entry)))) (callOf foreign2 literal2 budget2 (length (now (arguments2 .entry))) (length (now (nodes2 .entry)))) r ⌝ }
 {
     let first = says_yes(foreign, image, literal, budget, arguments, nodes);
     let second = says_yes(foreign2, image, literal2, budget2, arguments2, nodes2);
