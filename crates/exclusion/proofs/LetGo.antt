@@ -12,10 +12,12 @@ use denote.RattleType.{RattleType}
 use denote.Ref.{RefT}
 use denote.Slice.{sliceVal, MutSlice, heres, codedHoleys, finally, res-finally}
 
-module _ {M : Type 1} (𝓤 : URA M) (H : Heap 𝓤) (A : Atoms 𝓤) (W : Given 𝓤 H A) (ℓ : Lifetime) (κ : Lft) (R : RattleType) where
+module _ {M : Type 1} (𝓤 : URA M) (H : Heap 𝓤) (A : Atoms 𝓤) (W : Given 𝓤 H A) (ℓ : Lifetime) (κ : Lft)
+    (R : RattleType) where
   -- its last list is the one that it has
   pub let-go : (s : RefT (List (R .Denot)))
-      → ent 𝓤 (sem 𝓤 H A (MutSlice ℓ κ R .own s (sliceVal (s .ptr) (length (s .now)) ∷ []))) (sem 𝓤 H A (finally R (s .name) (s .now)))
+      → ent 𝓤 (sem 𝓤 H A (MutSlice ℓ κ R .own s (sliceVal (s .ptr) (length (s .now)) ∷ [])))
+      (sem 𝓤 H A (finally R (s .name) (s .now)))
   let-go s =
       let last = codedHoleys R .code (heres R (s .now)) in
       qed W (‵ (MutSlice ℓ κ R .own s (sliceVal (s .ptr) (length (s .now)) ∷ [])) ∷ []) ∵

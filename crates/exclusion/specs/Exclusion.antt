@@ -1,4 +1,4 @@
--- Demand 3 of two calls that are made.
+-- Demand 3 of two calls that are made: what their caller is told.
 use mathlib.Core.Path.{_≡_}
 use mathlib.Core.Bool.{Bool, true, false}
 use mathlib.Core.List.{List}
@@ -24,5 +24,5 @@ saysYes s (host h budget) = eqb (hostCall s h budget / 65536) 1
 pub record TwoCalls (image : List ℕ) (h k : ℕ) (c d : Call) (r : Bool) : Type 0 where
   -- whether both say YES
   pub both : Decides r (SaysYes image c × SaysYes image d)
-  -- "two literals that exclude each other never both get YES"
+  -- literals that exclude each other never both get YES
   pub never : Exclude (programIn image .rules) h k → r ≡ false

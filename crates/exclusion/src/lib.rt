@@ -1,4 +1,5 @@
-// Two calls on one image, each the query or the call from C: literals that exclude each other never both get YES.
+// Two calls on one image, each the query or the call from C: literals that exclude each other never both get YES. No program
+// needs it: it shows that what the calls promise is enough.
 ghost use mathlib.Core.Path.{_≡_};
 ghost use mathlib.Core.Bool.{true, false, _&&_};
 ghost use lib.Dec.{eqb};
@@ -63,14 +64,14 @@ fn says_yes(
     }
 }
 
-// Whether both.
+// Whether both are so.
 fn both(first: bool, second: bool) -> bool
     ensures { λ r. ⌜ r ≡ (first && second) ⌝ }
 {
     if first { second } else { false }
 }
 
-// Two calls on one image, whichever they are: whether both say YES.
+// Two calls on one image, whichever they are, with tables of their own: whether both say YES.
 pub fn both_yes(
     image: &[u8],
     foreign: bool,
