@@ -22,6 +22,10 @@ use Rattle.answer.proofs.Warrant.{complement-excludes, warranted-render
 -- ---- by the tests that decide between the answers
 
 module _ (b n : ℕ) where
+  none-by : (o v w m : Bool) → T (not o) → nodesOf (answerOf o v w m b n) ≡ 0
+  none-by false v w m t = refl
+  none-by true v w m t = absurd t
+
   abbrev code : Bool → Bool → Bool → Bool → ℕ
   code o v w m = codeOf (answerOf o v w m b n)
 
@@ -153,6 +157,11 @@ module _ (p : Program) (preferred : ℕ → ℕ → Bool) (h b : ℕ) where
   unfolding answerBy
   answer-nodes-unfinished o l =
       cut-by b n (occurs p h) (ltb b n) w m (occurs-renders p h .passes o) (over-renders b n .passes l)
+
+  pub answer-nodes-unknown : (¬ Occurs p h) → nodesOf (answerBy p preferred h b) ≡ 0
+  unfolding answerBy
+  answer-nodes-unknown o =
+      none-by b n (occurs p h) (ltb b n) w m (decides-not (occurs-renders p h) .passes o)
 
 -- ---- where the heads are below 128, and the test is the preference's
 

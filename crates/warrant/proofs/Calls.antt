@@ -25,7 +25,7 @@ use Rattle.warrant.specs.Calls.{listIn, listVerdict, front, unlessRefuse
 use Rattle.warrant.specs.Calls.{queried, queryArguments}
 use Rattle.warrant.specs.Calls.{nodesAfter, zeroed, queryColumn, queryTable, packed, hostCall, answeredNumber}
 use Rattle.answer.proofs.Answers.{entries-count, answer-not-refused, answer-nodes-within}
-use Rattle.warrant.proofs.Refusals.{ByCause, accepted, refused, cause-cases, query-cause, list-accepted}
+use Rattle.warrant.proofs.Refusals.{isCause, ByCause, accepted, refused, cause-cases, query-cause, list-accepted}
 use Rattle.warrant.proofs.Refusals.{query-accepted}
 
 -- ---- a code of an answer is the answer's, and nothing refused it
@@ -90,7 +90,7 @@ probed-yes Unknown h = let q = packed-code Unknown h in (λ e. sym q ∙ e, λ e
 probed-yes (Unfinished n) h = let q = packed-code (Unfinished n) h in (λ e. sym q ∙ e, λ e. q ∙ e)
 probed-yes (Refused n place) h = let l = h .0 in (λ e. absurd (omega arith), λ e. absurd (omega (arith, e)))
 
-answered-small : {v : Verdict} (a : Answer) → ByCause v → (v ≡ verdicts.Accepted → Small a) → Small (answeredBy v a)
+answered-small : {v : Verdict} (a : Answer) → ByCause isCause v → (v ≡ verdicts.Accepted → Small a) → Small (answeredBy v a)
 answered-small a accepted f = f refl
 answered-small a (refused {n} c) f = go (cause-cases n c)
   where

@@ -26,7 +26,7 @@ use Rattle.warrant.specs.Calls.{SaysYes}
 use Rattle.warrant.specs.Claims.{Answers, Grants, Demand-3}
 use Rattle.answer.proofs.Warrant.{warranted-apart}
 use Rattle.answer.proofs.Answers.{entries-count, answer-unknown, answer-unfinished, answer-nodes-finished}
-use Rattle.answer.proofs.Answers.{answer-nodes-unfinished}
+use Rattle.answer.proofs.Answers.{answer-nodes-unfinished, answer-nodes-unknown}
 use Rattle.answer.proofs.Answers.{answer-yes, answer-no, answer-undecided}
 use Rattle.warrant.proofs.Refusals.{check-accepted, check-passes, query-accepted}
 use Rattle.warrant.proofs.Calls.{answered-code, host-code, probe-yes}
@@ -48,6 +48,7 @@ answers p limits h b =
       undecided = answer-undecided p heads (Preferred p) test decides h b;
       nodes-finished = answer-nodes-finished p test h b;
       nodes-unfinished = answer-nodes-unfinished p test h b;
+      nodes-unknown = answer-nodes-unknown p test h b;
       entries-are-N = entries-count (tests p) h;
     }
 

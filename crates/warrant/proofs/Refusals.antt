@@ -6,8 +6,9 @@ use mathlib.Core.Logic.{_⊎_}
 use Prim.Native.Nat.{ℕ, zero, suc, _≤_, _<_}
 use native.Mathlib.Omega.{arith}
 use lib.ListN.{length}
-use lib.Dec.{T, ltb, leb, leb→le, le→leb, nltb→le, nleb→lt}
+use lib.Dec.{T, eqb, ltb, leb, leb→le, le→leb, nltb→le, nleb→lt}
 use Rattle.lists.specs.Decides.{Decides}
+use Rattle.lists.proofs.Lists.{or-left}
 use Rattle.lists.proofs.Decides.{decides-and, decides-or}
 use Rattle.program.specs.Program.{Π}
 use Rattle.image.specs.declared.Verdict.{Verdict}
@@ -23,9 +24,17 @@ use Rattle.warrant.specs.Calls.{checkImage, listIn, listVerdict, queryVe
 
 -- ---- the number of a refusal
 
--- one of document 01's table: 1 to 14, and 20 to 23
+-- of an image: 1 to 14
+abbrev pub imageCause : ℕ → Bool
+imageCause n = leb 1 n && leb n 14
+
+-- "The list call can give 23 but not 20 to 22."
+abbrev pub listCause : ℕ → Bool
+listCause n = imageCause n || eqb n 23
+
+-- all of document 01's table: 1 to 14, and 20 to 23
 abbrev pub isCause : ℕ → Bool
-isCause n = (leb 1 n && leb n 14) || (leb 20 n && leb n 23)
+isCause n = imageCause n || (leb 20 n && leb n 23)
 
 most-renders : (m n : ℕ) → Decides (leb m n) (m ≤ n)
 most-renders m n = record { says = leb→le m n; passes = le→leb m n }
@@ -35,20 +44,27 @@ cause-cases n = decides-or
     (decides-and (most-renders 1 n) (most-renders n 14))
     (decides-and (most-renders 20 n) (most-renders n 23)) .says
 
-pub data ByCause : Verdict → Type 0 where
-  accepted : ByCause Accepted
-  refused : {n place : ℕ} → T (isCause n) → ByCause (Refused n place)
+-- accepted, or refused by one of some causes
+pub data ByCause (causes : ℕ → Bool) : Verdict → Type 0 where
+  accepted : ByCause causes Accepted
+  refused : {n place : ℕ} → T (causes n) → ByCause causes (Refused n place)
 
-by-refuse : (b : Bool) (n place : ℕ) → T (isCause n) → ByCause (refuse b n place)
-by-refuse true n place c = refused c
-by-refuse false n place c = accepted
+module _ {causes : ℕ → Bool} where
+  by-refuse : (b : Bool) (n place : ℕ) → T (causes n) → ByCause causes (refuse b n place)
+  by-refuse true n place c = refused c
+  by-refuse false n place c = accepted
 
-by-then : {a v : Verdict} → ByCause a → ByCause v → ByCause (andThen a v)
-by-then accepted d = d
-by-then (refused c) d = refused c
+  by-then : {a v : Verdict} → ByCause causes a → ByCause causes v → ByCause causes (andThen a v)
+  by-then accepted d = d
+  by-then (refused c) d = refused c
+
+  -- an image's causes are among those of the calls that ask more of it
+  by-more : (more : ℕ → Bool) {v : Verdict} → ByCause causes v → ByCause (λ n. causes n || more n) v
+  by-more more accepted = accepted
+  by-more more (refused {n} c) = refused (or-left (causes n) (more n) c)
 
 module _ (s : List ℕ) where
-  part-cause : (part : List ℕ) (atoms before place : ℕ) → ByCause (partVerdict part atoms before place)
+  part-cause : (part : List ℕ) (atoms before place : ℕ) → ByCause imageCause (partVerdict part atoms before place)
   unfolding partVerdict
   part-cause part atoms before place =
       by-then (by-refuse (badSize part) 4 place tt)
@@ -58,31 +74,31 @@ module _ (s : List ℕ) where
       (by-then (by-refuse (badEmpty part) 8 place tt)
       (by-refuse (badSeventeenth before part) 9 place tt)))))
 
-  rule-cause : (before i : ℕ) → ByCause (ruleVerdict s before i)
+  rule-cause : (before i : ℕ) → ByCause imageCause (ruleVerdict s before i)
   unfolding ruleVerdict
   rule-cause before i =
       by-then (part-cause (partOf s i) (atomsOf s) before i)
       (by-refuse (badRepeat s i) 10 i tt)
 
-  rules-cause : (before i n : ℕ) → ByCause (rulesVerdict s before i n)
+  rules-cause : (before i n : ℕ) → ByCause imageCause (rulesVerdict s before i n)
   unfolding rulesVerdict
   rules-cause before i zero = accepted
   rules-cause before i (suc n) =
       by-then (rule-cause before i)
       (rules-cause (countKind (kindByte (partOf s i)) before) (suc i) n)
 
-  pair-cause : (j : ℕ) → ByCause (pairVerdict s j)
+  pair-cause : (j : ℕ) → ByCause imageCause (pairVerdict s j)
   unfolding pairVerdict
   pair-cause j =
       by-then (by-refuse (badPair s j) 12 j tt)
       (by-refuse (badOrder s j) 13 j tt)
 
-  pairs-cause : (j n : ℕ) → ByCause (pairsVerdict s j n)
+  pairs-cause : (j n : ℕ) → ByCause imageCause (pairsVerdict s j n)
   unfolding pairsVerdict
   pairs-cause j zero = accepted
   pairs-cause j (suc n) = by-then (pair-cause j) (pairs-cause (suc j) n)
 
-  verdict-cause : ByCause (verdict s)
+  verdict-cause : ByCause imageCause (verdict s)
   unfolding verdict
   verdict-cause =
       by-then (by-refuse (badLength s) 1 0 tt)
@@ -91,22 +107,21 @@ module _ (s : List ℕ) where
       (by-then (rules-cause 0 0 (rulesOf s))
       (by-then (by-refuse (badPairs s) 11 0 tt) (pairs-cause 0 (pairsOf s))))))
 
-  pub check-cause : ByCause (checkImage s)
+  pub check-cause : ByCause imageCause (checkImage s)
   unfolding checkImage
   check-cause =
       by-then verdict-cause
       (by-refuse (contradictory (Π (programIn s .rules))) 14 0 tt)
 
-  -- "The list call can give 23 but not 20 to 22."
-  pub list-cause : (room : ℕ) → ByCause (listVerdict s room)
+  pub list-cause : (room : ℕ) → ByCause listCause (listVerdict s room)
   unfolding listVerdict
   list-cause room =
-      by-then check-cause (by-refuse (ltb room (length (listIn s))) 23 0 tt)
+      by-then (by-more (λ n. eqb n 23) check-cause) (by-refuse (ltb room (length (listIn s))) 23 0 tt)
 
-  pub query-cause : (h b al nl : ℕ) → ByCause (queryVerdict s h b al nl)
+  pub query-cause : (h b al nl : ℕ) → ByCause isCause (queryVerdict s h b al nl)
   unfolding queryVerdict
   query-cause h b al nl =
-      by-then check-cause
+      by-then (by-more (λ n. leb 20 n && leb n 23) check-cause)
       (by-then (by-refuse (leb 128 h) 20 0 tt)
       (by-then (by-refuse (ltb 4096 b) 21 0 tt)
       (by-then (by-refuse (ltb nl b) 22 0 tt)

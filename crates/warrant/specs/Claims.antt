@@ -27,6 +27,8 @@ pub record Answers (p : Program) (h budget : ℕ) : Type 0 where
   -- "with N nodes", and "5 UNFINISHED, nodes = budget"
   pub nodes-finished : Occurs p h → nodeCount (tests p) h ≤ budget → nodesOf (answer p h budget) ≡ nodeCount (tests p) h
   pub nodes-unfinished : Occurs p h → budget < nodeCount (tests p) h → nodesOf (answer p h budget) ≡ budget
+  -- "4 UNKNOWN, 0 nodes"
+  pub nodes-unknown : (¬ Occurs p h) → nodesOf (answer p h budget) ≡ 0
   -- "N is its number of nodes": of the entries
   pub entries-are-N : length (forestEntries (tests p) h) ≡ nodeCount (tests p) h
 

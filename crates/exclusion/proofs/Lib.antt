@@ -1,0 +1,3 @@
+-- What the walks cite.
+pub mod Exclusion
+pub mod LetGo

@@ -1,0 +1,2 @@
+-- What two calls on one image never say.
+pub mod Exclusion
