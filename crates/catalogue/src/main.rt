@@ -1,6 +1,6 @@
 // Prints what the strict part of each image derives: the files that are named, or standard input where none is.
 // It links the derivation part and nothing above it.
-use image::Verdict;
+use layout::Verdict;
 use literals::LiteralSet;
 
 fn main() {

@@ -7,7 +7,7 @@ use lib.Dec.{T, eqb, eqb→eq, eqb-refl}
 use Rattle.lists.specs.Decides.{Decides}
 use Rattle.lists.proofs.Decides.{decides-and}
 use Rattle.literals.proofs.Tests.{not-true-false}
-use Rattle.image.specs.Reading.{programIn}
+use Rattle.layout.specs.Reading.{programIn}
 use Rattle.defeat.specs.OfProgram.{Exclude}
 use Rattle.answer.specs.Answer.{codeOf}
 use Rattle.warrant.specs.Calls.{queried, hostCall, Call, query, host, literalAsked, SaysYes}

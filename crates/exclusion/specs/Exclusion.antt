@@ -5,7 +5,7 @@ use mathlib.Core.List.{List}
 use Prim.Native.Nat.{ℕ, _/_}
 use lib.Dec.{eqb}
 use Rattle.lists.specs.Decides.{Decides}
-use Rattle.image.specs.Reading.{programIn}
+use Rattle.layout.specs.Reading.{programIn}
 use Rattle.defeat.specs.OfProgram.{Exclude}
 use Rattle.answer.specs.Answer.{codeOf}
 use Rattle.warrant.specs.Calls.{queried, hostCall, Call, query, host, SaysYes}

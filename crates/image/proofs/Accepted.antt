@@ -16,14 +16,14 @@ use Rattle.program.specs.Program.{Kind, strict, defeasible, Rule, Program, next
 use Rattle.program.specs.Limits.{DefeasibleAt, PairOf, Limits}
 use Rattle.program.specs.Table.{Holds}
 use Rattle.program.proofs.Fillings.{bit-of-next}
-use Rattle.image.specs.declared.Verdict.{Verdict}
-use Rattle.image.specs.declared.Verdict.the-variants.{Accepted, Refused}
-use Rattle.image.specs.Layout.{byteAt, atomsOf, rulesOf, pairsOf, sizeOf, partOf, kindByte, headByte, bodyBytes, firstOf, secondOf}
-use Rattle.image.specs.Causes.{refuse, andThen, allBelow, ascending, badSize, badKind, badLiteral, badBody, badEmpty, badSeventeenth, badRepeat, badLength, badCounts, badDirectory, badPairs, badPair, notDefeasible, partVerdict, ruleVerdict, countKind, rulesVerdict, pairVerdict, pairsVerdict, verdict}
-use Rattle.image.specs.Reading.{ruleIn, rulesIn, pairsIn, programIn}
-use Rattle.image.specs.Steps.{Parts, Loaded}
-use Rattle.image.proofs.Bytes.{below-here, below-after}
-use Rattle.image.proofs.Directory.{neither-left, neither-right, directory-parts}
+use Rattle.layout.specs.declared.Verdict.{Verdict}
+use Rattle.layout.specs.declared.Verdict.the-variants.{Accepted, Refused}
+use Rattle.layout.specs.Layout.{byteAt, atomsOf, rulesOf, pairsOf, sizeOf, partOf, kindByte, headByte, bodyBytes, firstOf, secondOf}
+use Rattle.layout.specs.Causes.{refuse, andThen, allBelow, ascending, badSize, badKind, badLiteral, badBody, badEmpty, badSeventeenth, badRepeat, badLength, badCounts, badDirectory, badPairs, badPair, notDefeasible, partVerdict, ruleVerdict, countKind, rulesVerdict, pairVerdict, pairsVerdict, verdict}
+use Rattle.layout.specs.Reading.{ruleIn, rulesIn, pairsIn, programIn}
+use Rattle.layout.specs.Steps.{Parts, Loaded}
+use Rattle.layout.proofs.Bytes.{below-here, below-after}
+use Rattle.layout.proofs.Directory.{neither-left, neither-right, directory-parts}
 use Rattle.image.proofs.EachRule.{rules-next, kind-counted, kind-defeasible, kind-strict}
 use Rattle.image.proofs.EachPair.{pairs-next, part-length}
 use Rattle.image.proofs.Readings.{rules-length, rules-at, rules-found, pairs-found}

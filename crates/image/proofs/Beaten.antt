@@ -12,11 +12,11 @@ use Rattle.program.specs.Table.{needAt, needOf, Holds}
 use Rattle.program.specs.Store.{withBeaten, withCounts}
 use Rattle.program.specs.Filling.{RowsTo, BeatenTo}
 use Rattle.program.proofs.Fillings.{beaten-skip, beaten-more, counts-hold}
-use Rattle.image.specs.declared.Verdict.the-variants.{Accepted}
-use Rattle.image.specs.Layout.{byteAt, atomsOf, rulesOf, pairsOf, partOf, kindByte, secondOf}
-use Rattle.image.specs.Causes.{verdict}
-use Rattle.image.specs.Reading.{ruleIn, rulesIn, pairsIn, programIn}
-use Rattle.image.specs.Steps.{Named, BitsAt}
+use Rattle.layout.specs.declared.Verdict.the-variants.{Accepted}
+use Rattle.layout.specs.Layout.{byteAt, atomsOf, rulesOf, pairsOf, partOf, kindByte, secondOf}
+use Rattle.layout.specs.Causes.{verdict}
+use Rattle.layout.specs.Reading.{ruleIn, rulesIn, pairsIn, programIn}
+use Rattle.layout.specs.Steps.{Named, BitsAt}
 use Rattle.image.proofs.EachRule.{kind-defeasible, kind-strict}
 use Rattle.image.proofs.Accepted.{Sound, accepted-sound, Fillable, accepted-fillable, pair-named}
 

@@ -9,11 +9,11 @@ use native.Mathlib.Omega.{arith}
 use lib.ListN.{length, getD, length-take, length-drop}
 use lib.Dec.{leb, eqb}
 use borrow.Author.Tests.{le-leb, lt-leb, eq-eqb, ne-eqb}
-use Rattle.image.specs.declared.Verdict.{Verdict}
-use Rattle.image.specs.declared.Verdict.the-variants.{Accepted, Refused}
-use Rattle.image.specs.Layout.{rulesOf, pairsOf, offsetOf, sizeOf, partOf, kindByte, firstOf, secondOf}
-use Rattle.image.specs.Causes.{refuse, andThen, notDefeasible, badPairs, badPair, pairCode, badOrder, pairVerdict, pairsVerdict}
-use Rattle.image.specs.Steps.{Parts}
+use Rattle.layout.specs.declared.Verdict.{Verdict}
+use Rattle.layout.specs.declared.Verdict.the-variants.{Accepted, Refused}
+use Rattle.layout.specs.Layout.{rulesOf, pairsOf, offsetOf, sizeOf, partOf, kindByte, firstOf, secondOf}
+use Rattle.layout.specs.Causes.{refuse, andThen, notDefeasible, badPairs, badPair, pairCode, badOrder, pairVerdict, pairsVerdict}
+use Rattle.layout.specs.Steps.{Parts}
 
 module _ (s : List ℕ) (rules : ℕ) (is : rules ≡ rulesOf s) (a : ℕ) where
   pub absent-not : rules ≤ a → true ≡ notDefeasible s a

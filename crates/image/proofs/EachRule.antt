@@ -9,11 +9,11 @@ use native.Mathlib.Omega.{arith}
 use lib.Dec.{eqb}
 use Rattle.literals.specs.Sets.{choose}
 use Rattle.program.specs.Program.{strict, defeasible, nextBit}
-use Rattle.image.specs.declared.Verdict.{Verdict}
-use Rattle.image.specs.declared.Verdict.the-variants.{Accepted, Refused}
-use Rattle.image.specs.Layout.{atomsOf, partOf, kindByte}
-use Rattle.image.specs.Reading.{ruleIn}
-use Rattle.image.specs.Causes.{refuse, andThen, badRepeat, partVerdict, ruleVerdict, countKind, rulesVerdict}
+use Rattle.layout.specs.declared.Verdict.{Verdict}
+use Rattle.layout.specs.declared.Verdict.the-variants.{Accepted, Refused}
+use Rattle.layout.specs.Layout.{atomsOf, partOf, kindByte}
+use Rattle.layout.specs.Reading.{ruleIn}
+use Rattle.layout.specs.Causes.{refuse, andThen, badRepeat, partVerdict, ruleVerdict, countKind, rulesVerdict}
 
 pub count-le : (kind before : ℕ) → countKind kind before ≤ suc before
 count-le kind before = go (eqb kind 1)

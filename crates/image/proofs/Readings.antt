@@ -12,8 +12,8 @@ use lib.Dec.{eqb}
 use borrow.Author.Tests.{eq-eqb, ne-eqb}
 use Rattle.literals.specs.Sets.{choose, insert}
 use Rattle.program.specs.Program.{Rule, fact, ruleAt, bitOf, beatenFrom}
-use Rattle.image.specs.Layout.{partOf, firstOf, secondOf}
-use Rattle.image.specs.Reading.{ruleIn, rulesIn, pairsIn}
+use Rattle.layout.specs.Layout.{partOf, firstOf, secondOf}
+use Rattle.layout.specs.Reading.{ruleIn, rulesIn, pairsIn}
 
 pub rules-length : (s : List ℕ) (i n : ℕ) → length (rulesIn s i n) ≡ n
 unfolding rulesIn

@@ -6,16 +6,16 @@ use Prim.Native.Nat.{ℕ, _+_, _*_, _<_, _≤_}
 use native.Mathlib.Omega.{arith}
 use lib.Dec.{ltb, eqb}
 use borrow.Author.Tests.{ltb-false}
-use Rattle.image.specs.declared.Verdict.{Verdict}
-use Rattle.image.specs.declared.Verdict.the-variants.{Accepted, Refused}
-use Rattle.image.specs.declared.cursor.Cursor.{Cursor}
-use Rattle.image.specs.declared.header.Counts.{Counts}
-use Rattle.image.specs.declared.header.Header.{Header}
-use Rattle.image.specs.declared.header.Header.the-variants as header
-use Rattle.image.specs.Layout.{numberAt, atomsOf, rulesOf, pairsOf}
-use Rattle.image.specs.Causes.{refuse, andThen, badLength, badCounts, badDirectory, rulesVerdict, badPairs, pairsVerdict, verdict}
-use Rattle.image.specs.Steps.{cursorAt, headerBy, headerOf}
-use Rattle.image.proofs.Directory.{neither-left, neither-right}
+use Rattle.layout.specs.declared.Verdict.{Verdict}
+use Rattle.layout.specs.declared.Verdict.the-variants.{Accepted, Refused}
+use Rattle.layout.specs.declared.cursor.Cursor.{Cursor}
+use Rattle.layout.specs.declared.header.Counts.{Counts}
+use Rattle.layout.specs.declared.header.Header.{Header}
+use Rattle.layout.specs.declared.header.Header.the-variants as header
+use Rattle.layout.specs.Layout.{numberAt, atomsOf, rulesOf, pairsOf}
+use Rattle.layout.specs.Causes.{refuse, andThen, badLength, badCounts, badDirectory, rulesVerdict, badPairs, pairsVerdict, verdict}
+use Rattle.layout.specs.Steps.{cursorAt, headerBy, headerOf}
+use Rattle.layout.proofs.Directory.{neither-left, neither-right}
 
 -- what the header says where it is read
 pub record Known (s : List ℕ) (c : Counts) (next : Cursor) : Type 0 where

@@ -1,24 +1,17 @@
 // The program image: from bytes to the rule table, or the first cause that refuses them.
 ghost use mathlib.Core.Path.{_≡_};
-ghost use Rattle.image.specs.Causes.{verdict};
-ghost use Rattle.image.specs.Reading.{programIn};
-ghost use Rattle.image.specs.Steps.{Loaded};
+ghost use Rattle.layout.specs.Causes.{verdict};
+ghost use Rattle.layout.specs.Reading.{programIn};
+ghost use Rattle.layout.specs.Steps.{Loaded};
 
-pub mod cursor;
 mod fill;
-pub mod header;
 mod pairs;
-pub mod part;
 mod rules;
 
-use header::Header;
+use layout::Verdict;
+use layout::header;
+use layout::header::Header;
 use program::RuleTable;
-
-// Accepted, or the number and the place of the first cause that applies.
-pub enum Verdict {
-    Accepted,
-    Refused { number: u32, place: u32 },
-}
 
 // The first of causes 1 to 13 that applies to an image.
 pub fn check(image: &[u8]) -> Verdict

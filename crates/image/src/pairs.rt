@@ -2,12 +2,12 @@
 ghost use mathlib.Core.Path.{_≡_};
 ghost use Prim.Native.Nat.{_+_, _*_, _≤_, _<_};
 ghost use lib.ListN.{length, getD};
-ghost use Rattle.image.specs.Layout.{rulesOf, pairsOf, partOf};
-ghost use Rattle.image.specs.Causes.{refuse, andThen, notDefeasible, badPairs, pairVerdict, pairsVerdict};
-ghost use Rattle.image.specs.Steps.{Parts};
-use crate::Verdict;
-use crate::cursor;
-use crate::part;
+ghost use Rattle.layout.specs.Layout.{rulesOf, pairsOf, partOf};
+ghost use Rattle.layout.specs.Causes.{refuse, andThen, notDefeasible, badPairs, pairVerdict, pairsVerdict};
+ghost use Rattle.layout.specs.Steps.{Parts};
+use layout::Verdict;
+use layout::cursor;
+use layout::part;
 
 fn wide(byte: u8) -> usize
     ensures { λ r. ⌜ (r ≡ byte) × (r < 256) ⌝ }

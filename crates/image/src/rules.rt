@@ -1,15 +1,15 @@
 // The rules of an image whose directory is sound: causes 4 to 10, for each rule in turn.
 ghost use mathlib.Core.Path.{_≡_};
 ghost use Prim.Native.Nat.{_≤_, _<_};
-ghost use Rattle.image.specs.Layout.{atomsOf};
-ghost use Rattle.image.specs.Causes.{standsIn, ruleVerdict, rulesVerdict};
-ghost use Rattle.image.specs.Steps.{Parts, Located};
-use crate::Verdict;
-use crate::cursor;
-use crate::cursor::Cursor;
-use crate::cursor::Entry;
-use crate::cursor::Span;
-use crate::part;
+ghost use Rattle.layout.specs.Layout.{atomsOf};
+ghost use Rattle.layout.specs.Causes.{standsIn, ruleVerdict, rulesVerdict};
+ghost use Rattle.layout.specs.Steps.{Parts, Located};
+use layout::Verdict;
+use layout::cursor;
+use layout::cursor::Cursor;
+use layout::cursor::Entry;
+use layout::cursor::Span;
+use layout::part;
 
 // The bytes are those of one of the first i parts.
 fn repeated(image: &[u8], bytes: &[u8], i: usize) -> bool

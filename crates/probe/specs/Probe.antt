@@ -7,10 +7,10 @@ use Rattle.program.specs.Program.{Rule, Π-mask}
 use Rattle.derivation.specs.Closure.{closure}
 use Rattle.warrant.specs.declared.Listed.{Listed}
 use Rattle.warrant.specs.declared.Listed.the-variants as lists
-use Rattle.image.specs.Causes.{verdict}
-use Rattle.image.specs.Reading.{programIn}
-use Rattle.image.specs.declared.Verdict.{Verdict}
-use Rattle.image.specs.declared.Verdict.the-variants.{Accepted, Refused}
+use Rattle.layout.specs.Causes.{verdict}
+use Rattle.layout.specs.Reading.{programIn}
+use Rattle.layout.specs.declared.Verdict.{Verdict}
+use Rattle.layout.specs.declared.Verdict.the-variants.{Accepted, Refused}
 
 -- 0 where the image is accepted, else number * 2^32 + place
 abbrev pub verdictNumber : Verdict → ℕ

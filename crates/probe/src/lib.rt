@@ -4,7 +4,7 @@ ghost use lib.ListN.{length};
 ghost use Rattle.warrant.specs.Calls.{checkImage, listed, listTable, queried, queryArguments, queryNodes, answeredNumber};
 ghost use Rattle.probe.specs.Probe.{verdictNumber, listedNumber, closedNumber};
 use answer::Answer;
-use image::Verdict;
+use layout::Verdict;
 use literals::LiteralSet;
 use warrant::Listed;
 use warrant::Node;

@@ -10,9 +10,9 @@ use native.Mathlib.Omega.{arith}
 use lib.ListN.{length, drop, replicate, length-append, length-drop, length-map, length-replicate}
 use lib.Dec.{T, ltb, nltb→le}
 use Rattle.program.specs.Program.{Program}
-use Rattle.image.specs.declared.Verdict.{Verdict}
-use Rattle.image.specs.declared.Verdict.the-variants as verdicts
-use Rattle.image.specs.Reading.{programIn}
+use Rattle.layout.specs.declared.Verdict.{Verdict}
+use Rattle.layout.specs.declared.Verdict.the-variants as verdicts
+use Rattle.layout.specs.Reading.{programIn}
 use Rattle.derivation.specs.Derivation.{complement}
 use Rattle.defeat.specs.Tests.{Tests}
 use Rattle.defeat.specs.Preference.{preferredTest}

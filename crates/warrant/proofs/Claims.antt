@@ -9,9 +9,9 @@ use native.Mathlib.Omega.{arith}
 use Rattle.literals.proofs.Tests.{not-true-false}
 use Rattle.program.specs.Program.{Program, Π}
 use Rattle.program.specs.Limits.{Limits}
-use Rattle.image.specs.declared.Verdict.the-variants.{Accepted}
-use Rattle.image.specs.Causes.{verdict}
-use Rattle.image.specs.Reading.{programIn}
+use Rattle.layout.specs.declared.Verdict.the-variants.{Accepted}
+use Rattle.layout.specs.Causes.{verdict}
+use Rattle.layout.specs.Reading.{programIn}
 use Rattle.image.proofs.Accepted.{accepted-limits}
 use Rattle.derivation.specs.Derivation.{Contradictory, HeadsBelow}
 use Rattle.derivation.specs.Closure.{contradictory}

@@ -2,8 +2,8 @@
 use mathlib.Core.Path.{_≡_, refl}
 use mathlib.Core.List.{List, [], _∷_}
 use Prim.Native.Nat.{ℕ}
-use Rattle.image.specs.Layout.{numberAt}
-use Rattle.image.specs.Reading.{program, readImage}
+use Rattle.layout.specs.Layout.{numberAt}
+use Rattle.layout.specs.Reading.{program, readImage}
 use Rattle.answer.proofs.Fittings.{F}
 
 -- "F as an image"

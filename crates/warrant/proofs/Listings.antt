@@ -11,9 +11,9 @@ use Rattle.literals.specs.Sets.{choose}
 use Rattle.argument.specs.declared.Listed.{Listed}
 use Rattle.argument.specs.declared.Listed.the-variants as parts
 use Rattle.argument.specs.Listing.{listed as listedIn, withList}
-use Rattle.image.specs.declared.Verdict.{Verdict}
-use Rattle.image.specs.declared.Verdict.the-variants as verdicts
-use Rattle.image.specs.Causes.{refuse, andThen}
+use Rattle.layout.specs.declared.Verdict.{Verdict}
+use Rattle.layout.specs.declared.Verdict.the-variants as verdicts
+use Rattle.layout.specs.Causes.{refuse, andThen}
 use Rattle.warrant.specs.declared.Listed.the-variants as lists
 use Rattle.warrant.specs.Calls.{checkImage, listIn, listVerdict, listedBy, listed, front, unlessRefused, listTable}
 

@@ -11,14 +11,14 @@ use Rattle.lists.specs.Decides.{Decides}
 use Rattle.lists.proofs.Lists.{or-left}
 use Rattle.lists.proofs.Decides.{decides-and, decides-or}
 use Rattle.program.specs.Program.{Π}
-use Rattle.image.specs.declared.Verdict.{Verdict}
-use Rattle.image.specs.declared.Verdict.the-variants.{Accepted, Refused}
-use Rattle.image.specs.Layout.{atomsOf, rulesOf, pairsOf, partOf, kindByte}
-use Rattle.image.specs.Causes.{refuse, andThen, badLength, badCounts, badDirectory, badSize, badKind, badLiteral}
-use Rattle.image.specs.Causes.{badBody, badEmpty}
-use Rattle.image.specs.Causes.{badSeventeenth, badRepeat, badPairs, badPair, badOrder, countKind}
-use Rattle.image.specs.Causes.{partVerdict, ruleVerdict, rulesVerdict, pairVerdict, pairsVerdict, verdict}
-use Rattle.image.specs.Reading.{programIn}
+use Rattle.layout.specs.declared.Verdict.{Verdict}
+use Rattle.layout.specs.declared.Verdict.the-variants.{Accepted, Refused}
+use Rattle.layout.specs.Layout.{atomsOf, rulesOf, pairsOf, partOf, kindByte}
+use Rattle.layout.specs.Causes.{refuse, andThen, badLength, badCounts, badDirectory, badSize, badKind, badLiteral}
+use Rattle.layout.specs.Causes.{badBody, badEmpty}
+use Rattle.layout.specs.Causes.{badSeventeenth, badRepeat, badPairs, badPair, badOrder, countKind}
+use Rattle.layout.specs.Causes.{partVerdict, ruleVerdict, rulesVerdict, pairVerdict, pairsVerdict, verdict}
+use Rattle.layout.specs.Reading.{programIn}
 use Rattle.derivation.specs.Closure.{contradictory}
 use Rattle.warrant.specs.Calls.{checkImage, listIn, listVerdict, queryVerdict}
 

@@ -6,10 +6,10 @@ use Prim.Native.Nat.{ℕ, _+_, _*_, _/_}
 use lib.ListN.{length, drop, replicate}
 use lib.Dec.{ltb, leb}
 use Rattle.program.specs.Program.{Π}
-use Rattle.image.specs.declared.Verdict.{Verdict}
-use Rattle.image.specs.declared.Verdict.the-variants as verdicts
-use Rattle.image.specs.Causes.{refuse, andThen, verdict}
-use Rattle.image.specs.Reading.{programIn}
+use Rattle.layout.specs.declared.Verdict.{Verdict}
+use Rattle.layout.specs.declared.Verdict.the-variants as verdicts
+use Rattle.layout.specs.Causes.{refuse, andThen, verdict}
+use Rattle.layout.specs.Reading.{programIn}
 use Rattle.derivation.specs.Closure.{contradictory}
 use Rattle.argument.specs.List.{argumentList}
 use Rattle.tree.specs.Entries.{Entry}

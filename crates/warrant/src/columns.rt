@@ -5,7 +5,7 @@ ghost use Rattle.tree.specs.Tables.{columns, Hold};
 ghost use Rattle.warrant.specs.Calls.{queried, queryArguments};
 ghost use Rattle.warrant.specs.Columns.{queryColumns};
 use answer::Answer;
-use image::Verdict;
+use layout::Verdict;
 
 // Answers a literal beside a node table of `room` entries. What the four tables held before plays no part in the answer.
 pub fn query<'i, 'a, 't>(

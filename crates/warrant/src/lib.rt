@@ -2,11 +2,11 @@
 ghost use mathlib.Core.Path.{_≡_};
 ghost use lib.ListN.{length};
 ghost use Rattle.program.specs.Table.{Holds};
-ghost use Rattle.image.specs.Reading.{programIn};
+ghost use Rattle.layout.specs.Reading.{programIn};
 ghost use Rattle.warrant.specs.Calls.{checkImage, listed, listTable};
 ghost use Rattle.warrant.specs.Calls.{queried, queryArguments, queryNodes};
 use answer::Answer;
-use image::Verdict;
+use layout::Verdict;
 use literals::LiteralSet;
 use program::RuleTable;
 

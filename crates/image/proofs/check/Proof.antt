@@ -4,10 +4,10 @@ use mathlib.Core.Bool.{Bool, true, false, not}
 use mathlib.Core.List.{List}
 use Prim.Native.Nat.{ℕ}
 use borrow.Author.Tests.{not-true, not-false}
-use Rattle.image.specs.declared.Verdict.the-variants.{Accepted}
-use Rattle.image.specs.Causes.{badDirectory}
-use Rattle.image.specs.Steps.{Parts}
-use Rattle.image.proofs.Directory.{directory-parts}
+use Rattle.layout.specs.declared.Verdict.the-variants.{Accepted}
+use Rattle.layout.specs.Causes.{badDirectory}
+use Rattle.layout.specs.Steps.{Parts}
+use Rattle.layout.proofs.Directory.{directory-parts}
 use Rattle.image.proofs.Whole.{Known, header-refuses, header-known, after-header}
 use borrow.Author.Needs.{needs}
 use Rattle.image.proofs.check.Statement.{statement}
@@ -23,7 +23,7 @@ enum-known-counts : tie.Need-enum-known-counts
 enum-known-counts c = search needs
 
 -- the directory that passed its test has its parts
-sound : (s : List ℕ) (n : ℕ) (r : Bool) → n ≡ Rattle.image.specs.Layout.rulesOf s → r ≡ not (badDirectory s) → r ≡ true → Parts s n
+sound : (s : List ℕ) (n : ℕ) (r : Bool) → n ≡ Rattle.layout.specs.Layout.rulesOf s → r ≡ not (badDirectory s) → r ≡ true → Parts s n
 sound s n r is e q = subst (Parts s) (sym is) (directory-parts s (not-true _ (sym e ∙ q)))
 
 unsound : (s : List ℕ) (r : Bool) → r ≡ not (badDirectory s) → r ≡ false → badDirectory s ≡ true

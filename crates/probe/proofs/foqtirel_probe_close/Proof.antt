@@ -12,10 +12,10 @@ use Rattle.program.specs.Program.{Rule, Program, Π-mask}
 use Rattle.program.specs.Table.{Holds, Shaped}
 use Rattle.derivation.specs.Closure.{closure}
 use Rattle.derivation.proofs.Tables.{limits-shaped}
-use Rattle.image.specs.declared.Verdict.{Verdict}
-use Rattle.image.specs.declared.Verdict.the-variants.{Accepted, Refused}
-use Rattle.image.specs.Causes.{verdict}
-use Rattle.image.specs.Reading.{programIn}
+use Rattle.layout.specs.declared.Verdict.{Verdict}
+use Rattle.layout.specs.declared.Verdict.the-variants.{Accepted, Refused}
+use Rattle.layout.specs.Causes.{verdict}
+use Rattle.layout.specs.Reading.{programIn}
 use Rattle.image.proofs.Accepted.{accepted-limits, loaded-holds}
 use Rattle.probe.specs.Probe.{derivedByMasks, closedBy}
 use borrow.Author.Needs.{needs}

@@ -6,8 +6,8 @@ use Rattle.program.specs.Limits.{Limits}
 use Rattle.program.specs.Table.{Holds}
 use Rattle.argument.specs.Closures.{Numbered}
 use Rattle.argument.proofs.Tables.{limits-numbered}
-use Rattle.image.specs.declared.Verdict.the-variants.{Accepted}
-use Rattle.image.specs.Reading.{programIn}
+use Rattle.layout.specs.declared.Verdict.the-variants.{Accepted}
+use Rattle.layout.specs.Reading.{programIn}
 use Rattle.image.proofs.Accepted.{accepted-limits}
 use Rattle.warrant.specs.Calls.{checkImage}
 use Rattle.warrant.proofs.Refusals.{check-accepted}

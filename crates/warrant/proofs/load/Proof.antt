@@ -10,10 +10,10 @@ use Rattle.program.specs.Table.{Holds, Shaped}
 use Rattle.derivation.specs.Closure.{closure, contradictory}
 use Rattle.derivation.proofs.Choices.{Π-mask-empty}
 use Rattle.derivation.proofs.Tables.{limits-shaped}
-use Rattle.image.specs.declared.Verdict.{Verdict}
-use Rattle.image.specs.declared.Verdict.the-variants.{Accepted, Refused}
-use Rattle.image.specs.Causes.{refuse, andThen, verdict}
-use Rattle.image.specs.Reading.{programIn}
+use Rattle.layout.specs.declared.Verdict.{Verdict}
+use Rattle.layout.specs.declared.Verdict.the-variants.{Accepted, Refused}
+use Rattle.layout.specs.Causes.{refuse, andThen, verdict}
+use Rattle.layout.specs.Reading.{programIn}
 use Rattle.image.proofs.Accepted.{accepted-limits, loaded-holds}
 use Rattle.warrant.specs.Calls.{checkImage}
 use native.Mathlib.Omega.{arith}

@@ -8,9 +8,9 @@ use lib.Bits.{bitOr}
 use Rattle.literals.specs.Sets.{insert}
 use Rattle.literals.proofs.Members.{insert-union}
 use Rattle.program.specs.Program.{Rule, bitOf, beatenFrom}
-use Rattle.image.specs.Layout.{rulesOf, partOf}
-use Rattle.image.specs.Reading.{pairsIn}
-use Rattle.image.specs.Steps.{BitsAt}
+use Rattle.layout.specs.Layout.{rulesOf, partOf}
+use Rattle.layout.specs.Reading.{pairsIn}
+use Rattle.layout.specs.Steps.{BitsAt}
 use Rattle.image.proofs.Readings.{beaten-other, beaten-one, beaten-end}
 use borrow.Author.Needs.{needs}
 use native.Mathlib.Omega.{arith}

@@ -5,8 +5,8 @@ use Prim.Native.Nat.{ℕ, _+_, _-_, _<_, _≤_}
 use lib.ListN.{length, drop}
 use Rattle.literals.specs.Sets.{insert, insertAll}
 use Rattle.literals.specs.Words.{setOf}
-use Rattle.image.specs.Causes.{allBelow}
-use Rattle.image.proofs.Bytes.{below-here, below-after, insert-next, insert-none}
+use Rattle.layout.specs.Causes.{allBelow}
+use Rattle.layout.proofs.Bytes.{below-here, below-after, insert-next, insert-none}
 use borrow.Author.Needs.{needs}
 use native.Mathlib.Omega.{arith}
 use Rattle.image.proofs.fill.body_set.Statement.{statement}

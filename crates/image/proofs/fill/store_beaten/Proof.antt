@@ -11,12 +11,12 @@ use borrow.Author.Tests.{not-true, not-false}
 use Rattle.program.specs.Program.{Kind, Rule, nextBit, defeasiblesFrom, bitOf, beatenFrom}
 use Rattle.program.specs.Store.{withBeaten}
 use Rattle.program.specs.Filling.{RowsTo, BeatenTo}
-use Rattle.image.specs.declared.Verdict.the-variants.{Accepted}
-use Rattle.image.specs.Layout.{rulesOf, pairsOf, partOf, kindByte}
-use Rattle.image.specs.Causes.{verdict}
-use Rattle.image.specs.Reading.{ruleIn, rulesIn, pairsIn, programIn}
-use Rattle.image.specs.Steps.{Named, BitsAt}
-use Rattle.image.proofs.Parts.{parts-fewer, located-order, located-inside, located-part}
+use Rattle.layout.specs.declared.Verdict.the-variants.{Accepted}
+use Rattle.layout.specs.Layout.{rulesOf, pairsOf, partOf, kindByte}
+use Rattle.layout.specs.Causes.{verdict}
+use Rattle.layout.specs.Reading.{ruleIn, rulesIn, pairsIn, programIn}
+use Rattle.layout.specs.Steps.{Named, BitsAt}
+use Rattle.layout.proofs.Parts.{parts-fewer, located-order, located-inside, located-part}
 use Rattle.image.proofs.EachRule.{kind-defeasible, kind-strict}
 use Rattle.image.proofs.Accepted.{Sound, accepted-sound, Fillable, accepted-fillable}
 use Rattle.image.proofs.Beaten.{second-named, bits-at, beaten-start, beaten-strict, beaten-defeasible}

@@ -13,7 +13,7 @@ use Rattle.program.specs.Store.{withRow, withBit}
 use Rattle.program.specs.Filling.{Stored}
 use Rattle.program.proofs.Stores.{row-length}
 use Rattle.program.proofs.Fillings.{stored-strict, stored-defeasible}
-use Rattle.image.specs.Reading.{ruleIn}
+use Rattle.layout.specs.Reading.{ruleIn}
 use Rattle.image.proofs.EachRule.{kind-defeasible, kind-strict}
 use native.Mathlib.Omega.{arith}
 use borrow.Author.Needs.{needs}

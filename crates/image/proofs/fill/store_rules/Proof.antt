@@ -8,10 +8,10 @@ use lib.Dec.{eqb}
 use Rattle.program.specs.Program.{Rule, nextBit, defeasiblesFrom, bitOf, ruleAt}
 use Rattle.program.specs.Filling.{Stored, RowsTo}
 use Rattle.program.proofs.Fillings.{rows-more}
-use Rattle.image.specs.Layout.{partOf, kindByte, bodyBytes}
-use Rattle.image.specs.Causes.{allBelow}
-use Rattle.image.specs.Reading.{ruleIn, rulesIn}
-use Rattle.image.proofs.Parts.{parts-fewer, located-order, located-inside, located-part}
+use Rattle.layout.specs.Layout.{partOf, kindByte, bodyBytes}
+use Rattle.layout.specs.Causes.{allBelow}
+use Rattle.layout.specs.Reading.{ruleIn, rulesIn}
+use Rattle.layout.proofs.Parts.{parts-fewer, located-order, located-inside, located-part}
 use Rattle.image.proofs.Accepted.{Fillable, accepted-fillable}
 use borrow.Author.Needs.{needs}
 use native.Mathlib.Omega.{arith}

@@ -4,8 +4,8 @@ use mathlib.Core.Bool.{Bool, not}
 use mathlib.Core.List.{List}
 use Prim.Native.Nat.{ℕ}
 use lib.Dec.{eqb}
-use Rattle.image.specs.Layout.{kindByte}
-use Rattle.image.proofs.Parts.{parts-fewer, located-inside, located-part}
+use Rattle.layout.specs.Layout.{kindByte}
+use Rattle.layout.proofs.Parts.{parts-fewer, located-inside, located-part}
 use Rattle.image.proofs.EachPair.{absent-not, present-not}
 use native.Mathlib.Omega.{arith}
 use borrow.Author.Needs.{needs}

@@ -6,8 +6,8 @@ use Prim.Native.Nat.{ℕ, _+_, _-_, _*_, _≤_, _<_}
 use lib.ListN.{getD}
 use lib.Dec.{eqb, leb}
 use borrow.Author.Tests.{le-leb, lt-leb, eq-eqb, ne-eqb}
-use Rattle.image.specs.Layout.{rulesOf, partOf, firstOf, secondOf}
-use Rattle.image.specs.Causes.{notDefeasible, pairCode, badOrder}
+use Rattle.layout.specs.Layout.{rulesOf, partOf, firstOf, secondOf}
+use Rattle.layout.specs.Causes.{notDefeasible, pairCode, badOrder}
 use Rattle.image.proofs.EachPair.{pair-by, order-first, order-at}
 use borrow.Author.Needs.{needs}
 use Rattle.image.proofs.pairs.pair.Statement.{statement}

@@ -4,10 +4,10 @@ use mathlib.Core.Bool.{Bool, true, false}
 use mathlib.Core.List.{List}
 use Prim.Native.Nat.{ℕ, _+_, _-_, _*_, _<_, _≤_}
 use native.Mathlib.Nat.{sub-zero, le-refl}
-use Rattle.image.specs.declared.Verdict.the-variants.{Accepted}
-use Rattle.image.specs.Layout.{partOf}
-use Rattle.image.specs.Causes.{pairsVerdict}
-use Rattle.image.proofs.Parts.{located-order, located-inside, located-part}
+use Rattle.layout.specs.declared.Verdict.the-variants.{Accepted}
+use Rattle.layout.specs.Layout.{partOf}
+use Rattle.layout.specs.Causes.{pairsVerdict}
+use Rattle.layout.proofs.Parts.{located-order, located-inside, located-part}
 use Rattle.image.proofs.EachPair.{pairs-short, pairs-sized, after-eleven, pairs-next, pairs-end}
 use borrow.Author.Needs.{needs}
 use native.Mathlib.Omega.{arith}

@@ -4,9 +4,9 @@ use mathlib.Core.List.{List}
 use native.Mathlib.Nat.{sub-zero}
 use mathlib.Core.Bool.{Bool}
 use Prim.Native.Nat.{ℕ, _-_, _<_, _≤_}
-use Rattle.image.specs.Layout.{partOf}
-use Rattle.image.specs.Causes.{standsIn, sameBytes}
-use Rattle.image.proofs.Parts.{parts-fewer, located-order, located-inside, located-part, stands-step, stands-stop, stands-end}
+use Rattle.layout.specs.Layout.{partOf}
+use Rattle.layout.specs.Causes.{standsIn, sameBytes}
+use Rattle.layout.proofs.Parts.{parts-fewer, located-order, located-inside, located-part, stands-step, stands-stop, stands-end}
 use borrow.Author.Needs.{needs}
 use native.Mathlib.Omega.{arith}
 use Rattle.image.proofs.rules.repeated.Statement.{statement}

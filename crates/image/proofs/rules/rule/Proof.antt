@@ -4,11 +4,11 @@ use mathlib.Core.Bool.{Bool, true, false}
 use mathlib.Core.List.{List}
 use Prim.Native.Nat.{ℕ}
 use native.Mathlib.Nat.{le-refl}
-use Rattle.image.specs.declared.Verdict.{Verdict}
-use Rattle.image.specs.declared.Verdict.the-variants.{Accepted, Refused}
-use Rattle.image.specs.Layout.{atomsOf, partOf}
-use Rattle.image.specs.Causes.{badRepeat, partVerdict, standsIn}
-use Rattle.image.proofs.Parts.{located-inside, located-part}
+use Rattle.layout.specs.declared.Verdict.{Verdict}
+use Rattle.layout.specs.declared.Verdict.the-variants.{Accepted, Refused}
+use Rattle.layout.specs.Layout.{atomsOf, partOf}
+use Rattle.layout.specs.Causes.{badRepeat, partVerdict, standsIn}
+use Rattle.layout.proofs.Parts.{located-inside, located-part}
 use Rattle.image.proofs.EachRule.{rule-by}
 use borrow.Author.Needs.{needs}
 use Rattle.image.proofs.rules.rule.Statement.{statement}

@@ -3,12 +3,12 @@ use mathlib.Core.Path.{_≡_, refl, sym, ap, _∙_}
 use mathlib.Core.List.{List}
 use Prim.Native.Nat.{ℕ, _+_, _-_, _*_, _<_, _≤_}
 use native.Mathlib.Nat.{sub-zero, le-refl}
-use Rattle.image.specs.declared.Verdict.the-variants.{Accepted, Refused}
-use Rattle.image.specs.Layout.{partOf, kindByte}
-use Rattle.image.specs.Causes.{countKind, rulesVerdict}
-use Rattle.image.specs.Steps.{Located}
-use Rattle.image.proofs.Cursors.{entry-is}
-use Rattle.image.proofs.Parts.{parts-fewer, entry-there, entry-locates, located-inside, located-part}
+use Rattle.layout.specs.declared.Verdict.the-variants.{Accepted, Refused}
+use Rattle.layout.specs.Layout.{partOf, kindByte}
+use Rattle.layout.specs.Causes.{countKind, rulesVerdict}
+use Rattle.layout.specs.Steps.{Located}
+use Rattle.layout.proofs.Cursors.{entry-is}
+use Rattle.layout.proofs.Parts.{parts-fewer, entry-there, entry-locates, located-inside, located-part}
 use Rattle.image.proofs.EachRule.{count-le, rules-next, rules-end}
 use borrow.Author.Needs.{needs}
 use native.Mathlib.Omega.{arith}
