@@ -1,38 +1,12 @@
-// The adviser: reads an image, prints the number of its arguments and what is answered to each of its literals. The image
-// comes from standard input, or from the files that are named, one after another.
+// The adviser: reads an image from standard input, prints the number of its arguments and what is answered to each of its
+// literals.
 ghost use Prim.Native.Nat.{_≤_};
 use warrant::Listed;
 
+// An image has at most 1,836 bytes: of a longer input the first 2,048 are enough to refuse it.
 fn main() {
-    let count = os::arg_count();
-    if count < 2 {
-        from_file(0);
-        return;
-    }
-    let mut i = 1;
-    while i < count {
-        named(i);
-        i += 1;
-    }
-}
-
-// The file with the name of argument i.
-fn named(i: usize) {
-    let mut name = [0u8; 256];
-    let length = os::arg(i, &mut name);
-    let file = os::open_read(&name[..length]);
-    if file < 0 {
-        io::write_all(1, b"no such file\n");
-        return;
-    }
-    from_file(file);
-    libc::close(file);
-}
-
-// An image has at most 1,836 bytes: of a longer file the first 2,048 are enough to refuse it.
-fn from_file(file: i32) {
     let mut bytes = [0u8; 2048];
-    let length = io::read_full(file, &mut bytes);
+    let length = io::read_full(0, &mut bytes);
     advise(&bytes[..length]);
 }
 

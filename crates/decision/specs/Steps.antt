@@ -62,3 +62,9 @@ pub record Settled (p : Program) (h budget : ℕ) (r : Answer) (arguments argume
   pub result-is : r ≡ settled p h budget (length arguments)
   pub arguments-are : arguments′ ≡ withList (argumentList (p .rules)) arguments
   pub nodes-are : after ≡ columnsAfter r (forestEntries (tests p) h) before
+
+-- the same of each program within the limits that the table holds
+abbrev pub Settles : (table : List ℕ) (h budget : ℕ) (r : Answer) (arguments arguments′ : List ℕ) (before after : Columns)
+    → Type 0
+Settles table h budget r arguments arguments′ before after =
+    (w : Held table) → Settled (w .program) h budget r arguments arguments′ before after

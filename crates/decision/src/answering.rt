@@ -9,7 +9,7 @@ ghost use Rattle.tree.specs.Tables.{columns, Hold};
 ghost use Rattle.tree.specs.Roots.{ForestBuilt};
 ghost use Rattle.answer.specs.Answer.{answerOf, tests};
 ghost use Rattle.answer.specs.Tables.{cleared as «clearedTo», clearedIf};
-ghost use Rattle.decision.specs.Steps.{Held, Asked, Listing, Decidable, Decided, Settled};
+ghost use Rattle.decision.specs.Steps.{Held, Asked, Listing, Decidable, Decided, Settles};
 use crate::occurrence::occurs;
 use answer::Answer;
 use argument::Listed;
@@ -30,10 +30,9 @@ pub fn settle(
 ) -> Answer
     requires { ⌜ Asked (now table) literal budget (columns (now indexes) (now parents) (now kinds) (now marks)) ⌝ }
     requires { ⌜ Room (bitCount (now table)) (now closures) ⌝ }
-    ensures { λ r. ⌜ ((w : Held (now (table .entry)))
-        → Settled (w .program) literal budget r (now (arguments .entry)) (now (arguments .exit))
+    ensures { λ r. ⌜ Settles (now (table .entry)) literal budget r (now (arguments .entry)) (now (arguments .exit))
         (columns (now (indexes .entry)) (now (parents .entry)) (now (kinds .entry)) (now (marks .entry)))
-        (columns (now (indexes .exit)) (now (parents .exit)) (now (kinds .exit)) (now (marks .exit)))) ⌝ }
+        (columns (now (indexes .exit)) (now (parents .exit)) (now (kinds .exit)) (now (marks .exit))) ⌝ }
 {
     match argument::list(table, closures, arguments) {
         Listed::Count(count) => decide(

@@ -3,7 +3,7 @@
 ghost use Prim.Native.Nat.{_≤_};
 ghost use Rattle.program.specs.Table.{bitCount};
 ghost use Rattle.tree.specs.Tables.{columns};
-ghost use Rattle.decision.specs.Steps.{Held, Asked, Settled};
+ghost use Rattle.decision.specs.Steps.{Asked, Settles};
 use crate::answering::settle;
 use answer::Answer;
 use program::RuleTable;
@@ -20,10 +20,9 @@ pub fn query(
     marks: &mut [u8],
 ) -> Answer
     requires { ⌜ Asked (now table) literal budget (columns (now indexes) (now parents) (now kinds) (now marks)) ⌝ }
-    ensures { λ r. ⌜ ((w : Held (now (table .entry)))
-        → Settled (w .program) literal budget r (now (arguments .entry)) (now (arguments .exit))
+    ensures { λ r. ⌜ Settles (now (table .entry)) literal budget r (now (arguments .entry)) (now (arguments .exit))
         (columns (now (indexes .entry)) (now (parents .entry)) (now (kinds .entry)) (now (marks .entry)))
-        (columns (now (indexes .exit)) (now (parents .exit)) (now (kinds .exit)) (now (marks .exit)))) ⌝ }
+        (columns (now (indexes .exit)) (now (parents .exit)) (now (kinds .exit)) (now (marks .exit))) ⌝ }
 {
     let bits = program::bit_count(table);
     if bits <= 8 {
@@ -75,10 +74,9 @@ fn small(
 ) -> Answer
     requires { ⌜ Asked (now table) literal budget (columns (now indexes) (now parents) (now kinds) (now marks)) ⌝ }
     requires { ⌜ bitCount (now table) ≤ 8 ⌝ }
-    ensures { λ r. ⌜ ((w : Held (now (table .entry)))
-        → Settled (w .program) literal budget r (now (arguments .entry)) (now (arguments .exit))
+    ensures { λ r. ⌜ Settles (now (table .entry)) literal budget r (now (arguments .entry)) (now (arguments .exit))
         (columns (now (indexes .entry)) (now (parents .entry)) (now (kinds .entry)) (now (marks .entry)))
-        (columns (now (indexes .exit)) (now (parents .exit)) (now (kinds .exit)) (now (marks .exit)))) ⌝ }
+        (columns (now (indexes .exit)) (now (parents .exit)) (now (kinds .exit)) (now (marks .exit))) ⌝ }
 {
     let mut closures = [0u64; 512];
     settle(
@@ -106,10 +104,9 @@ fn middle(
 ) -> Answer
     requires { ⌜ Asked (now table) literal budget (columns (now indexes) (now parents) (now kinds) (now marks)) ⌝ }
     requires { ⌜ bitCount (now table) ≤ 12 ⌝ }
-    ensures { λ r. ⌜ ((w : Held (now (table .entry)))
-        → Settled (w .program) literal budget r (now (arguments .entry)) (now (arguments .exit))
+    ensures { λ r. ⌜ Settles (now (table .entry)) literal budget r (now (arguments .entry)) (now (arguments .exit))
         (columns (now (indexes .entry)) (now (parents .entry)) (now (kinds .entry)) (now (marks .entry)))
-        (columns (now (indexes .exit)) (now (parents .exit)) (now (kinds .exit)) (now (marks .exit)))) ⌝ }
+        (columns (now (indexes .exit)) (now (parents .exit)) (now (kinds .exit)) (now (marks .exit))) ⌝ }
 {
     let mut closures = [0u64; 8192];
     settle(
@@ -140,10 +137,9 @@ fn large(
 ) -> Answer
     requires { ⌜ Asked (now table) literal budget (columns (now indexes) (now parents) (now kinds) (now marks)) ⌝ }
     requires { ⌜ bits ≤ 16 ⌝ }
-    ensures { λ r. ⌜ ((w : Held (now (table .entry)))
-        → Settled (w .program) literal budget r (now (arguments .entry)) (now (arguments .exit))
+    ensures { λ r. ⌜ Settles (now (table .entry)) literal budget r (now (arguments .entry)) (now (arguments .exit))
         (columns (now (indexes .entry)) (now (parents .entry)) (now (kinds .entry)) (now (marks .entry)))
-        (columns (now (indexes .exit)) (now (parents .exit)) (now (kinds .exit)) (now (marks .exit)))) ⌝ }
+        (columns (now (indexes .exit)) (now (parents .exit)) (now (kinds .exit)) (now (marks .exit))) ⌝ }
 {
     if 16 < bits {
         large(
