@@ -102,9 +102,12 @@ module _ {A : Type 0} {F : Frame A} {t : Tests A} (L : Laws F) (R : Renders F t)
   child-kind (w ∷ l) a x ax (suc zero) e = blocking (reply-blocking R a x ax .0 e .1)
   child-kind (w ∷ l) a x ax (suc (suc k)) e = let b = reply-bound t (w ∷ l) x in absurd (omega arith)
 
-  -- the candidates one by one, where the replies to each child are known to grow
-  module _ (l : List A) (a : AcceptableLine F l)
-      (below : (x : A) → F .Argument x → replyKind t l x ≢ 0 → Grown F (t .arguments) (x ∷ l) (replies t (x ∷ l))) where
+  -- the replies to each child grow
+  abbrev BelowGrown : List A → Type 0
+  BelowGrown l = (x : A) → F .Argument x → replyKind t l x ≢ 0 → Grown F (t .arguments) (x ∷ l) (replies t (x ∷ l))
+
+  -- the candidates one by one
+  module _ (l : List A) (a : AcceptableLine F l) (below : BelowGrown l) where
     from-grows : (xs : List A) → Arguments F xs
         → (ys : List A) × InOrder (Child F l) xs ys
         × Grows F (t .arguments) l ys (from (replyKind t l) (λ x. replies t (x ∷ l)) xs)
@@ -129,12 +132,10 @@ module _ {A : Type 0} {F : Frame A} {t : Tests A} (L : Laws F) (R : Renders F t)
   grown-to : (n : ℕ) (l : List A) → AcceptableLine F l → remaining t l < n → Grown F (t .arguments) l (replies t l)
   grown-to zero l a h = absurd (omega arith)
   grown-to (suc n) l a h =
-      let (ys, o, g) =
-      from-grows l a
-      (λ x ax k.
+      let below : BelowGrown l = λ x ax k.
       let f = remaining-falls t (itself L R) l x (R .argument x .0 ax) k in
-      grown-to n (x ∷ l) (child-acceptable F l x (reply-child R l a x ax .0 k)) (omega arith))
-      (t .arguments) (λ x i. R .argument x .1 i) in
+      grown-to n (x ∷ l) (child-acceptable F l x (reply-child R l a x ax .0 k)) (omega arith) in
+      let (ys, o, g) = from-grows l a below (t .arguments) (λ x i. R .argument x .1 i) in
       record {
         children = ys;
         all-children = o;
