@@ -114,8 +114,8 @@ module _ {A : Type 0} {F : Frame A} {t : Tests A} (L : Laws F) (R : Renders F t)
 -- ---- of a literal's forest
 
 module _ {F : Frame ℕ} {t : Tests ℕ} (L : Laws F) (R : Renders F t) (h : ℕ) where
-  pub entries-published : EntriesFor F (t .arguments) h (forestEntries t h)
-  entries-published =
+  pub entries-in-preorder : EntriesFor F (t .arguments) h (forestEntries t h)
+  entries-in-preorder =
       let f = forest-grows L R h in
       record {
         forest = forest t h;
@@ -127,6 +127,6 @@ module _ {F : Frame ℕ} {t : Tests ℕ} (L : Laws F) (R : Renders F t) (h : ℕ
 
   pub entries-settled : (es : List Entry) → EntriesFor F (t .arguments) h es ↔ (es ≡ forestEntries t h)
   entries-settled es = (
-    λ g. entries-unique g entries-published,
-    λ e. subst (EntriesFor F (t .arguments) h) (sym e) entries-published,
+    λ g. entries-unique g entries-in-preorder,
+    λ e. subst (EntriesFor F (t .arguments) h) (sym e) entries-in-preorder,
   )
