@@ -1,4 +1,5 @@
--- The theorems on warrant and answers of a program.
+-- The theorems on forests, warrant and answers of a program.
+pub mod Forests
 pub mod Warrant
 pub mod Answers
 pub mod Places

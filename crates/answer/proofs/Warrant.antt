@@ -5,7 +5,7 @@ use mathlib.Core.Bool.{Bool}
 use mathlib.Core.List.{List, [], _∷_, List·Memᴰ, List·Memᴰ·head, List·Memᴰ·tail, List·Memᴰ·not-nil}
 use Prim.Native.Nat.{ℕ, _/_}
 use native.Mathlib.Omega.{arith}
-use lib.Dec.{eqb, eqb→eq, eqb-refl}
+use lib.Dec.{eqb, eqb→eq}
 use Rattle.lists.specs.Lists.{any}
 use Rattle.lists.specs.Decides.{Decides}
 use Rattle.lists.proofs.Lists.{filter-intro, filter-found}
@@ -24,14 +24,12 @@ use Rattle.defeat.proofs.Renders.{Renders}
 use Rattle.tree.specs.Marks.{UndefeatedRoot}
 use Rattle.tree.specs.Forest.{undefeatedRoot}
 use Rattle.tree.proofs.Marks.{undefeated-renders}
+use Rattle.tree.proofs.Published.{number-renders}
 use Rattle.tree.proofs.Exclusion.{exclusive-roots}
 use Rattle.answer.specs.Warrant.{WarrantedBy}
 use Rattle.answer.specs.Answer.{Occurs, occurs, argumentsFor, warranted}
 
 -- ---- atoms that stand in some rule
-
-number-renders : (m n : ℕ) → Decides (eqb m n) (m ≡ n)
-number-renders m n = record { says = eqb→eq m n; passes = λ e. rw e (eqb-refl n) }
 
 pub occurs-renders : (p : Program) (h : ℕ) → Decides (occurs p h) (Occurs p h)
 unfolding occurs

@@ -4,6 +4,8 @@ pub mod Reply
 pub mod Forest
 pub mod Entries
 pub mod Marks
+pub mod Published
+pub mod Preorder
 pub mod Exclusion
 pub mod Stores
 pub mod Tables

@@ -1,11 +1,12 @@
--- Argumentation lines, dialectical trees and marks: as published (Line, Marks), as computed (Reply, Forest, Entries,
--- OfLiteral), and in lent tables (Tables, Steps, Roots).
+-- Argumentation lines, dialectical trees and marks: as published (Line, Marks, Published), as computed (Reply, Forest,
+-- Entries, OfLiteral), and in lent tables (Tables, Steps, Roots).
 pub mod Line
 pub mod Marks
 pub mod Reply
 pub mod Forest
 pub mod Entries
 pub mod OfLiteral
+pub mod Published
 pub mod Tables
 pub mod Steps
 pub mod Roots
