@@ -24,6 +24,7 @@ use Rattle.answer.specs.Answer.{tests, answer, codeOf}
 use Rattle.warrant.specs.Calls.{checkImage, queryVerdict, answeredBy, queried, Call, query, host, probe, literalAsked}
 use Rattle.warrant.specs.Calls.{SaysYes}
 use Rattle.warrant.specs.Claims.{Answers, Grants, Demand-3}
+use Rattle.answer.proofs.Forests.{forest-published, entries-published}
 use Rattle.answer.proofs.Warrant.{warranted-apart}
 use Rattle.answer.proofs.Answers.{entries-count, answer-unknown, answer-unfinished, answer-nodes-finished}
 use Rattle.answer.proofs.Answers.{answer-nodes-unfinished, answer-nodes-unknown}
@@ -49,6 +50,8 @@ answers p limits h b =
       nodes-finished = answer-nodes-finished p test h b;
       nodes-unfinished = answer-nodes-unfinished p test h b;
       nodes-unknown = answer-nodes-unknown p test h b;
+      forest-is = forest-published p heads h;
+      entries-are = entries-published p heads h;
       entries-are-N = entries-count (tests p) h;
     }
 

@@ -9,9 +9,14 @@ use Rattle.derivation.specs.Derivation.{complement}
 use Rattle.layout.specs.declared.Verdict.{Verdict}
 use Rattle.layout.specs.declared.Verdict.the-variants.{Accepted}
 use Rattle.layout.specs.Reading.{programIn}
-use Rattle.defeat.specs.OfProgram.{Exclude}
+use Rattle.argument.specs.List.{argumentList}
+use Rattle.defeat.specs.Preference.{Preferred}
+use Rattle.defeat.specs.OfProgram.{Exclude, frameOf}
+use Rattle.tree.specs.Forest.{Forest}
+use Rattle.tree.specs.Entries.{Entry}
+use Rattle.tree.specs.Published.{ForestFor, EntriesFor}
 use Rattle.answer.specs.Warrant.{WarrantedBy, Warranted}
-use Rattle.answer.specs.Answer.{Occurs, nodeCount, forestEntries, tests, answer, codeOf, nodesOf}
+use Rattle.answer.specs.Answer.{Occurs, forest, nodeCount, forestEntries, tests, answer, codeOf, nodesOf}
 use Rattle.warrant.specs.Calls.{queryVerdict, Call, query, host, probe, literalAsked, SaysYes}
 
 -- ---- the answers
@@ -29,6 +34,11 @@ pub record Answers (p : Program) (h budget : ℕ) : Type 0 where
   pub nodes-unfinished : Occurs p h → budget < nodeCount (tests p) h → nodesOf (answer p h budget) ≡ budget
   -- "4 UNKNOWN, 0 nodes"
   pub nodes-unknown : (¬ Occurs p h) → nodesOf (answer p h budget) ≡ 0
+  -- the forest and its entries are the published ones, and no others are
+  pub forest-is : (f : Forest ℕ)
+      → ForestFor (frameOf p (Preferred p)) (argumentList (p .rules)) h f ↔ (f ≡ forest (tests p) h)
+  pub entries-are : (es : List Entry)
+      → EntriesFor (frameOf p (Preferred p)) (argumentList (p .rules)) h es ↔ (es ≡ forestEntries (tests p) h)
   -- "N is its number of nodes": of the entries
   pub entries-are-N : length (forestEntries (tests p) h) ≡ nodeCount (tests p) h
 
