@@ -1,0 +1,86 @@
+//! What `--help` prints.
+
+pub const ALL: &str = "\
+foqtirel: answers from rules that have exceptions, by a proved engine
+
+    foqtirel compile FILE -o IMAGE       a program text to an image
+    foqtirel show IMAGE                  an image back to text
+    foqtirel ask FILE LITERAL            the answer to one literal
+    foqtirel explain FILE LITERAL        the answer with its dialectical trees
+    foqtirel tree FILE LITERAL --svg OUT the trees as a picture
+    foqtirel advise FILE                 the answers to all literals
+
+FILE is a program text or, where its name ends in .img, an image.
+`foqtirel COMMAND --help` says more.
+
+    % comments go to the line's end
+    base_a.                               a fact
+    fixed <- base_a.                      a strict rule: always holds
+    b3: fits -< base_a.                   a defeasible rule with a label
+    b7: ~fits -< base_a, heavy.           ~ is strong negation
+    b7 > b3.                              rule b7 beats rule b3
+    flies(tina) -< bird(tina).            ground terms are names
+    :- atoms base_a, fits.                numbers atoms, names ones in no rule
+
+Exit status: 0 with an answer, 1 for an error in the program or a refusal,
+2 for wrong usage or a file that can't be read or written.
+";
+
+pub const COMPILE: &str = "\
+foqtirel compile FILE -o IMAGE
+
+Compiles a program text and writes its image. Nothing is written where the text
+has an error, or where its facts and strict rules contradict each other.
+Atoms are numbered by first occurrence, or as a line `:- atoms a, b, c.` says.
+";
+
+pub const SHOW: &str = "\
+foqtirel show IMAGE
+
+Prints an image as text: atoms are named a0, a1, .. and rules labelled r0, r1, ..
+where a preference names them. Compiling that text gives the same image.
+";
+
+pub const ASK: &str = "\
+foqtirel ask FILE LITERAL [--budget N]
+
+Prints the answer, the number of nodes of the trees it rests on, and what it means.
+
+    YES         the literal is warranted
+    NO          its complement is
+    UNDECIDED   neither is
+    UNKNOWN     no rule mentions its atom
+    UNFINISHED  its trees have more nodes than the budget
+
+N is 0 to 4096, and 4096 where it is not given. Quote a literal with `~` or `(`
+for the shell: '~fits'. In an image, atoms are a0, a1, .., and a literal may be
+given by its number.
+";
+
+pub const EXPLAIN: &str = "\
+foqtirel explain FILE LITERAL [--ascii]
+
+Prints the dialectical trees of all arguments for the literal and for its
+complement, then the answer. Each node shows its mark, what it concludes and by
+which defeasible rules; below a defeater stands what it attacks, and what makes
+it proper or blocking.
+
+    U  undefeated: each defeater below it is D
+    D  defeated: some defeater below it is U
+
+--ascii draws the branches with plain characters.
+";
+
+pub const TREE: &str = "\
+foqtirel tree FILE LITERAL --svg OUT
+
+Writes the trees of `explain` as an SVG picture. Undefeated nodes are blue with
+round ends, defeated ones orange with cut corners; a solid line leads from a
+proper defeater, a dashed one from a blocking one.
+";
+
+pub const ADVISE: &str = "\
+foqtirel advise FILE
+
+Prints the number of arguments, then each literal with its answer and nodes.
+";

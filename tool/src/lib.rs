@@ -1,0 +1,17 @@
+//! The command-line tool over the proved engine: programs as text, answers with their trees.
+//!
+//! The answers, arguments, trees and marks are the engine's. What this crate adds is the way in (text to
+//! image) and the way out (names, words and pictures), which is tested, not proved.
+
+pub mod command;
+pub mod compile;
+pub mod engine;
+pub mod explain;
+pub mod fault;
+pub mod help;
+pub mod image;
+pub mod lexer;
+pub mod program;
+pub mod reason;
+pub mod svg;
+pub mod text;

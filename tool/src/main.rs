@@ -1,0 +1,22 @@
+use std::io::Write;
+use std::process::ExitCode;
+
+/// The engine walks down lines of up to 4,096 arguments on the stack.
+const STACK: usize = 32 << 20;
+
+fn main() -> ExitCode {
+    let words: Vec<String> = std::env::args_os().skip(1).map(|word| word.to_string_lossy().into_owned()).collect();
+    let work = std::thread::Builder::new().stack_size(STACK).spawn(move || foqtirel::command::run(&words));
+    let Some(Ok(result)) = work.ok().map(|thread| thread.join()) else { return ExitCode::from(2) };
+    match result {
+        // A reader that has gone away is no error of this program.
+        Ok(text) => {
+            let written = std::io::stdout().write_all(text.as_bytes()).and_then(|()| std::io::stdout().flush());
+            ExitCode::from(if written.is_ok() { 0 } else { 2 })
+        }
+        Err(fault) => {
+            let _ = std::io::stderr().write_all(fault.render().as_bytes());
+            ExitCode::from(fault.status())
+        }
+    }
+}

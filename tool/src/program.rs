@@ -1,0 +1,76 @@
+//! A program with names: what a text compiles to, and what an image is read back as.
+
+#[derive(Clone, Debug, PartialEq, Eq)]
+pub struct Rule {
+    pub label: Option<String>,
+    pub defeasible: bool,
+    pub head: u8,
+    /// Strictly ascending.
+    pub body: Vec<u8>,
+}
+
+/// Literals are 2 × atom + sign, sign 1 for the strongly negated one.
+#[derive(Clone, Debug, Default, PartialEq, Eq)]
+pub struct Program {
+    pub atoms: Vec<String>,
+    pub rules: Vec<Rule>,
+    /// Rule numbers, strictly ascending: the first beats the second.
+    pub pairs: Vec<(u8, u8)>,
+}
+
+impl Program {
+    pub fn literal(&self, literal: u8) -> String {
+        let sign = if literal % 2 == 1 { "~" } else { "" };
+        match self.atoms.get(usize::from(literal / 2)) {
+            Some(atom) => format!("{sign}{atom}"),
+            None => format!("{sign}a{}", literal / 2),
+        }
+    }
+
+    /// A rule as it is written, without its label and its stop.
+    pub fn rule_text(&self, number: usize) -> String {
+        let Some(rule) = self.rules.get(number) else { return format!("rule {number}") };
+        let head = self.literal(rule.head);
+        let body: Vec<String> = rule.body.iter().map(|&literal| self.literal(literal)).collect();
+        let body = body.join(", ");
+        match (rule.defeasible, body.is_empty()) {
+            (true, _) => format!("{head} -< {body}"),
+            (false, true) => head,
+            (false, false) => format!("{head} <- {body}"),
+        }
+    }
+
+    /// The label where there is one, else the text.
+    pub fn rule_name(&self, number: usize) -> String {
+        match self.rules.get(number).and_then(|rule| rule.label.clone()) {
+            Some(label) => label,
+            None => self.rule_text(number),
+        }
+    }
+
+    /// The numbers of the defeasible rules in a mask: bit b is the b-th defeasible rule of the table.
+    pub fn rules_of(&self, mask: u16) -> Vec<usize> {
+        let defeasible = (0..self.rules.len()).filter(|&number| self.rules[number].defeasible);
+        defeasible.take(16).enumerate().filter(|(bit, _)| mask >> bit & 1 == 1).map(|(_, number)| number).collect()
+    }
+
+    /// The program as text that compiles to the same image.
+    pub fn text(&self) -> String {
+        let mut text = String::new();
+        for (index, atoms) in self.atoms.chunks(16).enumerate() {
+            let lead = if index == 0 { ":- atoms " } else { ",\n    " };
+            text += &format!("{lead}{}", atoms.join(", "));
+        }
+        if !self.atoms.is_empty() {
+            text += ".\n";
+        }
+        for (number, rule) in self.rules.iter().enumerate() {
+            let label = rule.label.as_ref().map(|label| format!("{label}: ")).unwrap_or_default();
+            text += &format!("{label}{}.\n", self.rule_text(number));
+        }
+        for &(first, second) in &self.pairs {
+            text += &format!("{} > {}.\n", self.rule_name(first.into()), self.rule_name(second.into()));
+        }
+        text
+    }
+}

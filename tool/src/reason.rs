@@ -1,0 +1,126 @@
+//! Why one argument defeats another: which literal it attacks, and which pair decides. The engine has settled
+//! that it does, and how; this finds the words for it from the same definitions.
+
+use std::collections::HashMap;
+
+use crate::engine::Argument;
+use crate::program::Program;
+
+/// The literals that facts and strict rules derive together with those given, each a bit.
+pub fn closure(program: &Program, given: u128) -> u128 {
+    let mut derived = given;
+    loop {
+        let before = derived;
+        for rule in program.rules.iter().filter(|rule| !rule.defeasible) {
+            if rule.body.iter().all(|&literal| has(derived, literal)) {
+                derived |= 1u128.checked_shl(rule.head.into()).unwrap_or(0);
+            }
+        }
+        if derived == before {
+            return derived;
+        }
+    }
+}
+
+fn has(set: u128, literal: u8) -> bool {
+    literal < 128 && set >> literal & 1 == 1
+}
+
+/// The lowest atom with both its literals in a set, as its positive literal.
+pub fn contradiction(set: u128) -> Option<u8> {
+    (0..128).step_by(2).find(|&literal| has(set, literal) && has(set, literal + 1))
+}
+
+/// How the two stand at the attacked sub-argument, in rule numbers.
+#[derive(Clone, Copy, Debug, PartialEq, Eq)]
+pub enum Standing {
+    /// The first rule, of the attacker, beats the second.
+    Preferred(usize, usize),
+    /// No pair of theirs is listed.
+    NoPair,
+    /// Each has a rule that beats one of the other.
+    Mutual((usize, usize), (usize, usize)),
+}
+
+#[derive(Clone, Copy, Debug, PartialEq, Eq)]
+pub struct Attack {
+    /// What the attacked sub-argument concludes.
+    pub literal: u8,
+    pub standing: Standing,
+}
+
+pub struct Reasons<'a> {
+    program: &'a Program,
+    arguments: &'a [Argument],
+    excluded: HashMap<(u8, u8), bool>,
+}
+
+impl<'a> Reasons<'a> {
+    pub fn new(program: &'a Program, arguments: &'a [Argument]) -> Reasons<'a> {
+        Reasons { program, arguments, excluded: HashMap::new() }
+    }
+
+    /// The attack that makes `attacker` a defeater of `target` of this kind (1 proper, 2 blocking): the one at the
+    /// target itself where that will do, else the first in list order.
+    pub fn attack(&mut self, attacker: Argument, target: Argument, kind: u8) -> Option<Attack> {
+        let arguments = self.arguments;
+        let inner = arguments.iter().filter(|part| part.mask & !target.mask == 0);
+        for part in std::iter::once(&target).chain(inner) {
+            if !self.exclude(attacker.literal, part.literal) {
+                continue;
+            }
+            let standing = self.standing(attacker, *part);
+            match (kind, standing) {
+                (1, Some(standing @ Standing::Preferred(..))) => return Some(Attack { literal: part.literal, standing }),
+                (2, Some(standing @ (Standing::NoPair | Standing::Mutual(..)))) => {
+                    return Some(Attack { literal: part.literal, standing });
+                }
+                _ => {}
+            }
+        }
+        None
+    }
+
+    fn exclude(&mut self, one: u8, other: u8) -> bool {
+        let program = self.program;
+        let both = || contradiction(closure(program, 1u128 << one | 1u128 << other)).is_some();
+        *self.excluded.entry((one, other)).or_insert_with(both)
+    }
+
+    /// None where the sub-argument is preferred.
+    fn standing(&self, attacker: Argument, part: Argument) -> Option<Standing> {
+        let (mine, its) = (self.program.rules_of(attacker.mask), self.program.rules_of(part.mask));
+        match (self.beats(&mine, &its), self.beats(&its, &mine)) {
+            (Some((first, second)), None) => Some(Standing::Preferred(first, second)),
+            (None, None) => Some(Standing::NoPair),
+            (Some(mine), Some(its)) => Some(Standing::Mutual(mine, its)),
+            (None, Some(_)) => None,
+        }
+    }
+
+    fn beats(&self, mine: &[usize], its: &[usize]) -> Option<(usize, usize)> {
+        let pairs = self.program.pairs.iter().map(|&(first, second)| (usize::from(first), usize::from(second)));
+        pairs.into_iter().find(|(first, second)| mine.contains(first) && its.contains(second))
+    }
+}
+
+/// Where the facts and strict rules contradict each other: the rule that completes a contradiction when they are
+/// followed front to back, and the one that derived the complement of its head before.
+pub fn clash(program: &Program) -> Option<(usize, usize)> {
+    let mut derived_by: HashMap<u8, usize> = HashMap::new();
+    loop {
+        let before = derived_by.len();
+        for (number, rule) in program.rules.iter().enumerate().filter(|(_, rule)| !rule.defeasible) {
+            if derived_by.contains_key(&rule.head) || !rule.body.iter().all(|literal| derived_by.contains_key(literal)) {
+                continue;
+            }
+            if let Some(&earlier) = derived_by.get(&(rule.head ^ 1)) {
+                return Some((number, earlier));
+            }
+            derived_by.insert(rule.head, number);
+        }
+        if derived_by.len() == before {
+            return None;
+        }
+    }
+}
