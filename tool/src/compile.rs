@@ -14,7 +14,10 @@ pub const MOST_BODY: usize = 8;
 
 pub fn compile(source: &Source) -> Result<Program, Flaw> {
     let atoms = number_atoms(source)?;
-    let mut program = Program { atoms: vec![String::new(); atoms.len()], ..Program::default() };
+    let mut program = Program {
+        atoms: vec![String::new(); atoms.len()],
+        ..Program::default()
+    };
     for (name, &atom) in &atoms {
         program.atoms[usize::from(atom)] = name.to_string();
     }
@@ -46,22 +49,38 @@ fn add_atom<'a>(atoms: &mut HashMap<&'a str, u8>, named: &'a Named) -> Result<()
     if !atoms.contains_key(named.name.as_str()) {
         if count == MOST_ATOMS {
             let what = format!("`{}` is the 65th atom", named.name);
-            return Err(Flaw::new(named.at, what, "a program has at most 64 atoms: split it, or drop atoms that decide nothing"));
+            return Err(Flaw::new(
+                named.at,
+                what,
+                "a program has at most 64 atoms: split it, or drop atoms that decide nothing",
+            ));
         }
         atoms.insert(&named.name, count as u8);
     }
     Ok(())
 }
 
-fn add_rules(source: &Source, atoms: &HashMap<&str, u8>, program: &mut Program) -> Result<(), Flaw> {
-    let number = |literal: &Literal| 2 * atoms[literal.atom.name.as_str()] + u8::from(literal.negated);
+fn add_rules(
+    source: &Source,
+    atoms: &HashMap<&str, u8>,
+    program: &mut Program,
+) -> Result<(), Flaw> {
+    let number =
+        |literal: &Literal| 2 * atoms[literal.atom.name.as_str()] + u8::from(literal.negated);
     let mut labels: HashMap<&str, Span> = HashMap::new();
     let mut defeasible = 0;
     for (index, rule) in source.rules.iter().enumerate() {
         if let Some(label) = &rule.label {
             if let Some(earlier) = labels.insert(&label.name, label.at) {
-                let what = format!("the label `{}` stands on line {} already", label.name, earlier.line);
-                return Err(Flaw::new(label.at, what, "give each rule a label of its own"));
+                let what = format!(
+                    "the label `{}` stands on line {} already",
+                    label.name, earlier.line
+                );
+                return Err(Flaw::new(
+                    label.at,
+                    what,
+                    "give each rule a label of its own",
+                ));
             }
         }
         defeasible += usize::from(rule.defeasible);
@@ -70,26 +89,48 @@ fn add_rules(source: &Source, atoms: &HashMap<&str, u8>, program: &mut Program) 
         for literal in &rule.body {
             if body.contains(&number(literal)) {
                 let what = format!("`{}` stands twice in this body", literal.text());
-                return Err(Flaw::new(literal.at, what, "a body is a set: write it once"));
+                return Err(Flaw::new(
+                    literal.at,
+                    what,
+                    "a body is a set: write it once",
+                ));
             }
             body.push(number(literal));
         }
         body.sort_unstable();
         let head = number(&rule.head);
-        let same = |other: &Rule| (other.defeasible, other.head, &other.body) == (rule.defeasible, head, &body);
+        let same = |other: &Rule| {
+            (other.defeasible, other.head, &other.body) == (rule.defeasible, head, &body)
+        };
         if let Some(earlier) = program.rules.iter().position(same) {
-            let what = format!("this rule stands on line {} already", source.rules[earlier].head.at.line);
-            return Err(Flaw::new(rule.head.at, what, "take one of the two out; the order of a body makes no difference"));
+            let what = format!(
+                "this rule stands on line {} already",
+                source.rules[earlier].head.at.line
+            );
+            return Err(Flaw::new(
+                rule.head.at,
+                what,
+                "take one of the two out; the order of a body makes no difference",
+            ));
         }
         let label = rule.label.as_ref().map(|label| label.name.clone());
-        program.rules.push(Rule { label, defeasible: rule.defeasible, head, body });
+        program.rules.push(Rule {
+            label,
+            defeasible: rule.defeasible,
+            head,
+            body,
+        });
     }
     Ok(())
 }
 
 fn limits(index: usize, defeasible: usize, rule: &crate::text::Rule) -> Result<(), Flaw> {
     if index == MOST_RULES {
-        return Err(Flaw::new(rule.head.at, "the 97th rule", "a program has at most 96 rules, facts counted: split it"));
+        return Err(Flaw::new(
+            rule.head.at,
+            "the 97th rule",
+            "a program has at most 96 rules, facts counted: split it",
+        ));
     }
     if rule.defeasible && defeasible > MOST_DEFEASIBLE {
         let help = "a program has at most 16 defeasible rules: split it, or write `<-` where a rule always holds";
@@ -106,15 +147,26 @@ fn limits(index: usize, defeasible: usize, rule: &crate::text::Rule) -> Result<(
 fn add_pairs(source: &Source, program: &mut Program) -> Result<(), Flaw> {
     let mut lines: HashMap<(u8, u8), usize> = HashMap::new();
     for preference in &source.preferences {
-        let (first, second) = (find(program, &preference.first)?, find(program, &preference.second)?);
+        let (first, second) = (
+            find(program, &preference.first)?,
+            find(program, &preference.second)?,
+        );
         let at = preference.second.at;
         if first == second {
             let what = format!("`{}` is preferred over itself", preference.first.name);
-            return Err(Flaw::new(at, what, "name two different rules, or take the line out"));
+            return Err(Flaw::new(
+                at,
+                what,
+                "name two different rules, or take the line out",
+            ));
         }
         if let Some(line) = lines.insert((first, second), preference.first.at.line) {
             let what = format!("this preference stands on line {line} already");
-            return Err(Flaw::new(preference.first.at, what, "take one of the two out"));
+            return Err(Flaw::new(
+                preference.first.at,
+                what,
+                "take one of the two out",
+            ));
         }
     }
     program.pairs = lines.into_keys().collect();
@@ -124,13 +176,26 @@ fn add_pairs(source: &Source, program: &mut Program) -> Result<(), Flaw> {
 
 fn find(program: &Program, label: &Named) -> Result<u8, Flaw> {
     let name = &label.name;
-    let Some(number) = program.rules.iter().position(|rule| rule.label.as_ref() == Some(name)) else {
+    let Some(number) = program
+        .rules
+        .iter()
+        .position(|rule| rule.label.as_ref() == Some(name))
+    else {
         let help = format!("write `{name}: ` before the rule that it names");
-        return Err(Flaw::new(label.at, format!("no rule is labelled `{name}`"), help));
+        return Err(Flaw::new(
+            label.at,
+            format!("no rule is labelled `{name}`"),
+            help,
+        ));
     };
     if !program.rules[number].defeasible {
-        let help = "only defeasible rules are preferred: write the rule with `-<`, or take this line out";
-        return Err(Flaw::new(label.at, format!("`{name}` is a strict rule"), help));
+        let help =
+            "only defeasible rules are preferred: write the rule with `-<`, or take this line out";
+        return Err(Flaw::new(
+            label.at,
+            format!("`{name}` is a strict rule"),
+            help,
+        ));
     }
     Ok(number as u8)
 }

@@ -10,7 +10,12 @@ extern "C" {
     /// 0 for an accepted image, otherwise number × 2^32 + place.
     fn foqtirel_probe_check(image: *const u8, length: usize) -> u64;
     /// The number of arguments, or number × 2^32 + place.
-    fn foqtirel_probe_list(image: *const u8, length: usize, arguments: *mut u32, arguments_length: usize) -> u64;
+    fn foqtirel_probe_list(
+        image: *const u8,
+        length: usize,
+        arguments: *mut u32,
+        arguments_length: usize,
+    ) -> u64;
     /// Code × 2^16 + nodes, or number × 2^32 + place.
     fn foqtirel_probe_query(
         image: *const u8,
@@ -55,7 +60,10 @@ pub struct Argument {
 
 impl Argument {
     fn from_entry(entry: u32) -> Argument {
-        Argument { mask: (entry / 128) as u16, literal: (entry % 128) as u8 }
+        Argument {
+            mask: (entry / 128) as u16,
+            literal: (entry % 128) as u8,
+        }
     }
 }
 
@@ -134,7 +142,10 @@ pub struct Verdict {
 fn refused(result: u64) -> Result<u64, Refusal> {
     match (result >> 32) as u32 {
         0 => Ok(result),
-        number => Err(Refusal { number, place: result as u32 }),
+        number => Err(Refusal {
+            number,
+            place: result as u32,
+        }),
     }
 }
 
@@ -147,9 +158,15 @@ pub fn check(image: &[u8]) -> Result<(), Refusal> {
 pub fn list(image: &[u8]) -> Result<Vec<Argument>, Refusal> {
     let mut table = vec![0u32; TABLE];
     // SAFETY: the library reads `image`, writes within `table`, and keeps neither.
-    let result = unsafe { foqtirel_probe_list(image.as_ptr(), image.len(), table.as_mut_ptr(), table.len()) };
+    let result = unsafe {
+        foqtirel_probe_list(image.as_ptr(), image.len(), table.as_mut_ptr(), table.len())
+    };
     let count = refused(result)? as usize;
-    Ok(table.into_iter().take(count).map(Argument::from_entry).collect())
+    Ok(table
+        .into_iter()
+        .take(count)
+        .map(Argument::from_entry)
+        .collect())
 }
 
 pub fn query(image: &[u8], literal: u32, budget: u32) -> Result<Verdict, Refusal> {
@@ -176,5 +193,9 @@ pub fn query(image: &[u8], literal: u32, budget: u32) -> Result<Verdict, Refusal
         _ => nodes as usize,
     };
     forest.truncate(written);
-    Ok(Verdict { answer, nodes, forest })
+    Ok(Verdict {
+        answer,
+        nodes,
+        forest,
+    })
 }

@@ -27,7 +27,11 @@ pub fn tell(program: &Program, arguments: &[Argument], verdict: &Verdict) -> Vec
     for (index, node) in verdict.forest.iter().enumerate() {
         let (mine, root) = (argument(index), node.kind == 0);
         let target = argument(node.parent as usize);
-        let attack = if root { None } else { reasons.attack(mine, target, node.kind) };
+        let attack = if root {
+            None
+        } else {
+            reasons.attack(mine, target, node.kind)
+        };
         told.push(Told {
             parent: node.parent as usize,
             root,
@@ -35,9 +39,17 @@ pub fn tell(program: &Program, arguments: &[Argument], verdict: &Verdict) -> Vec
             proper: node.kind == 1,
             literal: mine.literal,
             conclusion: program.literal(mine.literal),
-            rules: program.rules_of(mine.mask).into_iter().map(|number| program.rule_name(number)).collect(),
-            attacks: attack.map(|attack| attacks(program, mine, target, attack)).unwrap_or_default(),
-            because: attack.map(|attack| because(program, attack.standing)).unwrap_or_default(),
+            rules: program
+                .rules_of(mine.mask)
+                .into_iter()
+                .map(|number| program.rule_name(number))
+                .collect(),
+            attacks: attack
+                .map(|attack| attacks(program, mine, target, attack))
+                .unwrap_or_default(),
+            because: attack
+                .map(|attack| because(program, attack.standing))
+                .unwrap_or_default(),
         });
     }
     told
@@ -45,7 +57,11 @@ pub fn tell(program: &Program, arguments: &[Argument], verdict: &Verdict) -> Vec
 
 fn attacks(program: &Program, mine: Argument, target: Argument, attack: Attack) -> String {
     let literal = program.literal(attack.literal);
-    let inside = if attack.literal == target.literal { "" } else { "the sub-argument for " };
+    let inside = if attack.literal == target.literal {
+        ""
+    } else {
+        "the sub-argument for "
+    };
     let excluding = match attack.literal == mine.literal ^ 1 {
         true => String::new(),
         false => format!(", which excludes {}", program.literal(mine.literal)),
@@ -54,11 +70,23 @@ fn attacks(program: &Program, mine: Argument, target: Argument, attack: Attack) 
 }
 
 fn because(program: &Program, standing: Standing) -> String {
-    let beats = |first, second| format!("{} beats {}", program.rule_name(first), program.rule_name(second));
+    let beats = |first, second| {
+        format!(
+            "{} beats {}",
+            program.rule_name(first),
+            program.rule_name(second)
+        )
+    };
     match standing {
         Standing::Preferred(first, second) => beats(first, second),
         Standing::NoPair => "neither is preferred".to_string(),
-        Standing::Mutual(mine, its) => format!("neither is preferred: {} and {}", beats(mine.0, mine.1), beats(its.0, its.1)),
+        Standing::Mutual(mine, its) => {
+            format!(
+                "neither is preferred: {} and {}",
+                beats(mine.0, mine.1),
+                beats(its.0, its.1)
+            )
+        }
     }
 }
 
@@ -70,18 +98,29 @@ pub fn count(number: usize, thing: &str) -> String {
 pub fn meaning(literal: &str, complement: &str, verdict: &Verdict) -> String {
     let atom = literal.trim_start_matches('~');
     match verdict.answer {
-        Answer::Yes => format!("{literal} is warranted: an argument for it stands against all that speaks against it"),
+        Answer::Yes => format!(
+            "{literal} is warranted: an argument for it stands against all that speaks against it"
+        ),
         Answer::No => format!("{literal} does not hold: its complement {complement} is warranted"),
         Answer::Undecided => format!("neither {literal} nor {complement} is warranted"),
         Answer::Unknown => format!("no rule mentions {atom}"),
-        Answer::Unfinished => format!("the trees for {literal} and {complement} have more nodes than the budget of {}", verdict.nodes),
+        Answer::Unfinished => {
+            format!(
+                "the trees for {literal} and {complement} have more nodes than the budget of {}",
+                verdict.nodes
+            )
+        }
     }
 }
 
 /// The answer and its meaning in one line.
 pub fn answer_line(literal: &str, complement: &str, verdict: &Verdict) -> String {
     let nodes = count(verdict.nodes as usize, "node");
-    format!("{} ({nodes}): {}.", verdict.answer.name(), meaning(literal, complement, verdict))
+    format!(
+        "{} ({nodes}): {}.",
+        verdict.answer.name(),
+        meaning(literal, complement, verdict)
+    )
 }
 
 struct Branches {
@@ -90,18 +129,35 @@ struct Branches {
     through: &'static str,
 }
 
-const UNICODE: Branches = Branches { inner: "├─ ", last: "└─ ", through: "│  " };
-const ASCII: Branches = Branches { inner: "|- ", last: "`- ", through: "|  " };
+const UNICODE: Branches = Branches {
+    inner: "├─ ",
+    last: "└─ ",
+    through: "│  ",
+};
+const ASCII: Branches = Branches {
+    inner: "|- ",
+    last: "`- ",
+    through: "|  ",
+};
 
 /// The trees, indented; a heading goes before the trees of each literal.
 pub fn trees(program: &Program, told: &[Told], literal: u8, ascii: bool) -> String {
     let mut text = String::new();
     for asked in [literal, literal ^ 1] {
-        let roots = told.iter().filter(|node| node.root && node.literal == asked).count();
+        let roots = told
+            .iter()
+            .filter(|node| node.root && node.literal == asked)
+            .count();
         let name = program.literal(asked);
         match roots {
             0 => text += &format!("No argument for {name}.\n\n"),
-            _ => text += &format!("{} for {name}:\n\n{}", count(roots, "argument"), side(told, asked, ascii)),
+            _ => {
+                text += &format!(
+                    "{} for {name}:\n\n{}",
+                    count(roots, "argument"),
+                    side(told, asked, ascii)
+                )
+            }
         }
     }
     text
@@ -135,7 +191,12 @@ fn side(told: &[Told], asked: u8, ascii: bool) -> String {
             first = lead.clone() + if last { branches.last } else { branches.inner };
             leads[index] = lead + if last { "   " } else { branches.through };
         }
-        let below = leads[index].clone() + if has_child(index) { branches.through } else { "   " };
+        let below = leads[index].clone()
+            + if has_child(index) {
+                branches.through
+            } else {
+                "   "
+            };
         text += &entry(node, &first, &below);
     }
     text + "\n"
@@ -150,7 +211,10 @@ fn entry(node: &Told, first: &str, below: &str) -> String {
     let mut text = format!("{first}{mark}  {}  ({rules})\n", node.conclusion);
     if !node.root {
         let kind = if node.proper { "proper" } else { "blocking" };
-        text += &format!("{below}{kind} defeater: {}; {}\n", node.attacks, node.because);
+        text += &format!(
+            "{below}{kind} defeater: {}; {}\n",
+            node.attacks, node.because
+        );
     }
     text
 }

@@ -20,15 +20,27 @@ pub struct Flaw {
 
 impl Flaw {
     pub fn new(at: Span, what: impl Into<String>, help: impl Into<String>) -> Flaw {
-        Flaw { at, what: what.into(), help: help.into() }
+        Flaw {
+            at,
+            what: what.into(),
+            help: help.into(),
+        }
     }
 
     /// The flaw with its source line and a caret below it.
     pub fn render(&self, name: &str, text: &str) -> String {
-        let Span { line, column, length } = self.at;
+        let Span {
+            line,
+            column,
+            length,
+        } = self.at;
         let shown = text.lines().nth(line - 1).unwrap_or("");
         // A tab stays a tab, so that the caret stands below its place.
-        let lead: String = shown.chars().take(column - 1).map(|c| if c == '\t' { c } else { ' ' }).collect();
+        let lead: String = shown
+            .chars()
+            .take(column - 1)
+            .map(|c| if c == '\t' { c } else { ' ' })
+            .collect();
         let caret = "^".repeat(length.max(1));
         let margin = " ".repeat(line.to_string().len());
         format!(
@@ -62,7 +74,11 @@ impl Fault {
             Fault::Text(words) => words.clone(),
             Fault::Refused(refusal, more) => {
                 let Refusal { number, place } = *refusal;
-                let more = if more.is_empty() { String::new() } else { format!(": {more}") };
+                let more = if more.is_empty() {
+                    String::new()
+                } else {
+                    format!(": {more}")
+                };
                 format!("refused {number} {place}: {}{more}\n", refusal.meaning())
             }
         }

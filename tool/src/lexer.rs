@@ -47,7 +47,11 @@ impl Token {
 /// The tokens of a text; the last one is `End`.
 pub fn tokens(text: &str) -> Vec<(Token, Span)> {
     let mut found = Vec::new();
-    let mut last = Span { line: 1, column: 1, length: 0 };
+    let mut last = Span {
+        line: 1,
+        column: 1,
+        length: 0,
+    };
     for (index, line) in text.lines().enumerate() {
         let line: Vec<char> = line.chars().collect();
         let mut at = 0;
@@ -57,17 +61,30 @@ pub fn tokens(text: &str) -> Vec<(Token, Span)> {
                 continue;
             }
             let (token, length) = token(&line[at..]);
-            found.push((token, Span { line: index + 1, column: at + 1, length }));
+            found.push((
+                token,
+                Span {
+                    line: index + 1,
+                    column: at + 1,
+                    length,
+                },
+            ));
             at += length;
         }
-        last = Span { line: index + 1, column: line.len() + 1, length: 0 };
+        last = Span {
+            line: index + 1,
+            column: line.len() + 1,
+            length: 0,
+        };
     }
     found.push((Token::End, last));
     found
 }
 
 fn word(rest: &[char]) -> String {
-    rest.iter().take_while(|c| c.is_alphanumeric() || **c == '_').collect()
+    rest.iter()
+        .take_while(|c| c.is_alphanumeric() || **c == '_')
+        .collect()
 }
 
 /// The token that a line's rest starts with, and its length. The rest is not empty.

@@ -5,13 +5,22 @@ use std::process::ExitCode;
 const STACK: usize = 32 << 20;
 
 fn main() -> ExitCode {
-    let words: Vec<String> = std::env::args_os().skip(1).map(|word| word.to_string_lossy().into_owned()).collect();
-    let work = std::thread::Builder::new().stack_size(STACK).spawn(move || foqtirel::command::run(&words));
-    let Some(Ok(result)) = work.ok().map(|thread| thread.join()) else { return ExitCode::from(2) };
+    let words: Vec<String> = std::env::args_os()
+        .skip(1)
+        .map(|word| word.to_string_lossy().into_owned())
+        .collect();
+    let work = std::thread::Builder::new()
+        .stack_size(STACK)
+        .spawn(move || foqtirel::command::run(&words));
+    let Some(Ok(result)) = work.ok().map(|thread| thread.join()) else {
+        return ExitCode::from(2);
+    };
     match result {
         // A reader that has gone away is no error of this program.
         Ok(text) => {
-            let written = std::io::stdout().write_all(text.as_bytes()).and_then(|()| std::io::stdout().flush());
+            let written = std::io::stdout()
+                .write_all(text.as_bytes())
+                .and_then(|()| std::io::stdout().flush());
             ExitCode::from(if written.is_ok() { 0 } else { 2 })
         }
         Err(fault) => {

@@ -29,9 +29,15 @@ impl Program {
 
     /// A rule as it is written, without its label and its stop.
     pub fn rule_text(&self, number: usize) -> String {
-        let Some(rule) = self.rules.get(number) else { return format!("rule {number}") };
+        let Some(rule) = self.rules.get(number) else {
+            return format!("rule {number}");
+        };
         let head = self.literal(rule.head);
-        let body: Vec<String> = rule.body.iter().map(|&literal| self.literal(literal)).collect();
+        let body: Vec<String> = rule
+            .body
+            .iter()
+            .map(|&literal| self.literal(literal))
+            .collect();
         let body = body.join(", ");
         match (rule.defeasible, body.is_empty()) {
             (true, _) => format!("{head} -< {body}"),
@@ -51,7 +57,12 @@ impl Program {
     /// The numbers of the defeasible rules in a mask: bit b is the b-th defeasible rule of the table.
     pub fn rules_of(&self, mask: u16) -> Vec<usize> {
         let defeasible = (0..self.rules.len()).filter(|&number| self.rules[number].defeasible);
-        defeasible.take(16).enumerate().filter(|(bit, _)| mask >> bit & 1 == 1).map(|(_, number)| number).collect()
+        defeasible
+            .take(16)
+            .enumerate()
+            .filter(|(bit, _)| mask >> bit & 1 == 1)
+            .map(|(_, number)| number)
+            .collect()
     }
 
     /// The program as text that compiles to the same image.
@@ -65,11 +76,19 @@ impl Program {
             text += ".\n";
         }
         for (number, rule) in self.rules.iter().enumerate() {
-            let label = rule.label.as_ref().map(|label| format!("{label}: ")).unwrap_or_default();
+            let label = rule
+                .label
+                .as_ref()
+                .map(|label| format!("{label}: "))
+                .unwrap_or_default();
             text += &format!("{label}{}.\n", self.rule_text(number));
         }
         for &(first, second) in &self.pairs {
-            text += &format!("{} > {}.\n", self.rule_name(first.into()), self.rule_name(second.into()));
+            text += &format!(
+                "{} > {}.\n",
+                self.rule_name(first.into()),
+                self.rule_name(second.into())
+            );
         }
         text
     }

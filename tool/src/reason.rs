@@ -28,7 +28,9 @@ fn has(set: u128, literal: u8) -> bool {
 
 /// The lowest atom with both its literals in a set, as its positive literal.
 pub fn contradiction(set: u128) -> Option<u8> {
-    (0..128).step_by(2).find(|&literal| has(set, literal) && has(set, literal + 1))
+    (0..128)
+        .step_by(2)
+        .find(|&literal| has(set, literal) && has(set, literal + 1))
 }
 
 /// How the two stand at the attacked sub-argument, in rule numbers.
@@ -57,23 +59,37 @@ pub struct Reasons<'a> {
 
 impl<'a> Reasons<'a> {
     pub fn new(program: &'a Program, arguments: &'a [Argument]) -> Reasons<'a> {
-        Reasons { program, arguments, excluded: HashMap::new() }
+        Reasons {
+            program,
+            arguments,
+            excluded: HashMap::new(),
+        }
     }
 
     /// The attack that makes `attacker` a defeater of `target` of this kind (1 proper, 2 blocking): the one at the
     /// target itself where that will do, else the first in list order.
     pub fn attack(&mut self, attacker: Argument, target: Argument, kind: u8) -> Option<Attack> {
         let arguments = self.arguments;
-        let inner = arguments.iter().filter(|part| part.mask & !target.mask == 0);
+        let inner = arguments
+            .iter()
+            .filter(|part| part.mask & !target.mask == 0);
         for part in std::iter::once(&target).chain(inner) {
             if !self.exclude(attacker.literal, part.literal) {
                 continue;
             }
             let standing = self.standing(attacker, *part);
             match (kind, standing) {
-                (1, Some(standing @ Standing::Preferred(..))) => return Some(Attack { literal: part.literal, standing }),
+                (1, Some(standing @ Standing::Preferred(..))) => {
+                    return Some(Attack {
+                        literal: part.literal,
+                        standing,
+                    })
+                }
                 (2, Some(standing @ (Standing::NoPair | Standing::Mutual(..)))) => {
-                    return Some(Attack { literal: part.literal, standing });
+                    return Some(Attack {
+                        literal: part.literal,
+                        standing,
+                    });
                 }
                 _ => {}
             }
@@ -89,7 +105,10 @@ impl<'a> Reasons<'a> {
 
     /// None where the sub-argument is preferred.
     fn standing(&self, attacker: Argument, part: Argument) -> Option<Standing> {
-        let (mine, its) = (self.program.rules_of(attacker.mask), self.program.rules_of(part.mask));
+        let (mine, its) = (
+            self.program.rules_of(attacker.mask),
+            self.program.rules_of(part.mask),
+        );
         match (self.beats(&mine, &its), self.beats(&its, &mine)) {
             (Some((first, second)), None) => Some(Standing::Preferred(first, second)),
             (None, None) => Some(Standing::NoPair),
@@ -99,8 +118,14 @@ impl<'a> Reasons<'a> {
     }
 
     fn beats(&self, mine: &[usize], its: &[usize]) -> Option<(usize, usize)> {
-        let pairs = self.program.pairs.iter().map(|&(first, second)| (usize::from(first), usize::from(second)));
-        pairs.into_iter().find(|(first, second)| mine.contains(first) && its.contains(second))
+        let pairs = self
+            .program
+            .pairs
+            .iter()
+            .map(|&(first, second)| (usize::from(first), usize::from(second)));
+        pairs
+            .into_iter()
+            .find(|(first, second)| mine.contains(first) && its.contains(second))
     }
 }
 
@@ -110,8 +135,18 @@ pub fn clash(program: &Program) -> Option<(usize, usize)> {
     let mut derived_by: HashMap<u8, usize> = HashMap::new();
     loop {
         let before = derived_by.len();
-        for (number, rule) in program.rules.iter().enumerate().filter(|(_, rule)| !rule.defeasible) {
-            if derived_by.contains_key(&rule.head) || !rule.body.iter().all(|literal| derived_by.contains_key(literal)) {
+        for (number, rule) in program
+            .rules
+            .iter()
+            .enumerate()
+            .filter(|(_, rule)| !rule.defeasible)
+        {
+            if derived_by.contains_key(&rule.head)
+                || !rule
+                    .body
+                    .iter()
+                    .all(|literal| derived_by.contains_key(literal))
+            {
                 continue;
             }
             if let Some(&earlier) = derived_by.get(&(rule.head ^ 1)) {

@@ -30,7 +30,12 @@ pub fn picture(heading: &str, meaning: &str, told: &[Told]) -> String {
     let (width, height) = place(told, &mut boxes);
     let meaning = wrap(meaning, 100);
     let top = MARGIN + 30.0 + LINE * meaning.len() as f64 + 20.0;
-    let widest = meaning.iter().map(|line| line.chars().count()).max().unwrap_or(0) as f64 * CHARACTER;
+    let widest = meaning
+        .iter()
+        .map(|line| line.chars().count())
+        .max()
+        .unwrap_or(0) as f64
+        * CHARACTER;
     let full = width.max(widest).max(640.0) + 2.0 * MARGIN;
     let tall = top + height + 70.0;
     let mut svg = format!(
@@ -43,7 +48,10 @@ pub fn picture(heading: &str, meaning: &str, told: &[Told]) -> String {
     );
     for (index, line) in meaning.iter().enumerate() {
         let y = MARGIN + 40.0 + LINE * index as f64;
-        svg += &format!("<text class=\"m\" x=\"{MARGIN}\" y=\"{y:.0}\">{}</text>\n", escape(line));
+        svg += &format!(
+            "<text class=\"m\" x=\"{MARGIN}\" y=\"{y:.0}\">{}</text>\n",
+            escape(line)
+        );
     }
     svg += &format!("<g transform=\"translate({MARGIN} {top:.0})\">\n");
     for (index, node) in told.iter().enumerate().filter(|(_, node)| !node.root) {
@@ -72,17 +80,33 @@ fn make_box(node: &Told) -> Box {
         lines.push(("r", "facts and strict rules".to_string()));
     }
     for rule in &node.rules {
-        lines.extend(wrap(&format!("by {rule}"), WRAP).into_iter().map(|line| ("r", line)));
+        lines.extend(
+            wrap(&format!("by {rule}"), WRAP)
+                .into_iter()
+                .map(|line| ("r", line)),
+        );
     }
     if !node.root {
         for part in [&node.attacks, &node.because] {
             lines.extend(wrap(part, WRAP).into_iter().map(|line| ("w", line)));
         }
     }
-    let longest = lines.iter().map(|(_, line)| line.chars().count()).max().unwrap_or(0);
+    let longest = lines
+        .iter()
+        .map(|(_, line)| line.chars().count())
+        .max()
+        .unwrap_or(0);
     let width = longest as f64 * CHARACTER + 2.0 * PAD;
     let height = lines.len() as f64 * LINE + PAD;
-    Box { lines, width, height, span: 0.0, depth: 0, left: 0.0, top: 0.0 }
+    Box {
+        lines,
+        width,
+        height,
+        span: 0.0,
+        depth: 0,
+        left: 0.0,
+        top: 0.0,
+    }
 }
 
 /// Depths front to back, then the width of each node with all below it, back to front: children follow their parents.
@@ -99,13 +123,17 @@ fn measure(told: &[Told], boxes: &mut [Box]) {
     }
 }
 
-/// Trees side by side, in a new row where one would pass the row's width. Gives the width and height of all.
+/// Trees side by side, in a new row where one would pass the widest tree or the usual width. Gives the width and height of all.
 fn place(told: &[Told], boxes: &mut [Box]) -> (f64, f64) {
     let roots: Vec<usize> = (0..told.len()).filter(|&index| told[index].root).collect();
+    let row = roots
+        .iter()
+        .map(|&root| boxes[root].span)
+        .fold(ROW, f64::max);
     let (mut x, mut y, mut row_height, mut width) = (0.0f64, 0.0f64, 0.0f64, 0.0f64);
     for (place, &root) in roots.iter().enumerate() {
         let end = roots.get(place + 1).copied().unwrap_or(told.len());
-        if x > 0.0 && x + boxes[root].span > ROW {
+        if x > 0.0 && x + boxes[root].span > row {
             (x, y, row_height) = (0.0, y + row_height + RISE, 0.0);
         }
         row_height = row_height.max(place_tree(told, boxes, root..end, (x, y)));
@@ -116,8 +144,17 @@ fn place(told: &[Told], boxes: &mut [Box]) -> (f64, f64) {
 }
 
 /// One tree with its upper left corner at a point. Gives its height.
-fn place_tree(told: &[Told], boxes: &mut [Box], range: std::ops::Range<usize>, (x, y): (f64, f64)) -> f64 {
-    let deepest = range.clone().map(|index| boxes[index].depth).max().unwrap_or(0);
+fn place_tree(
+    told: &[Told],
+    boxes: &mut [Box],
+    range: std::ops::Range<usize>,
+    (x, y): (f64, f64),
+) -> f64 {
+    let deepest = range
+        .clone()
+        .map(|index| boxes[index].depth)
+        .max()
+        .unwrap_or(0);
     let mut heights = vec![0.0f64; deepest + 1];
     for index in range.clone() {
         heights[boxes[index].depth] = boxes[index].height.max(heights[boxes[index].depth]);
@@ -129,7 +166,11 @@ fn place_tree(told: &[Told], boxes: &mut [Box], range: std::ops::Range<usize>, (
     let mut next = vec![x; range.len()];
     for index in range.clone() {
         let depth = boxes[index].depth;
-        let start = if told[index].root { x } else { next[told[index].parent - range.start] };
+        let start = if told[index].root {
+            x
+        } else {
+            next[told[index].parent - range.start]
+        };
         if !told[index].root {
             next[told[index].parent - range.start] += boxes[index].span;
         }
@@ -147,7 +188,9 @@ fn edge(child: &Box, parent: &Box, proper: bool) -> String {
     let (x2, y2) = (parent.left + parent.width / 2.0, parent.top + parent.height);
     let middle = y1 - RISE / 2.0;
     let class = if proper { "p" } else { "b" };
-    format!("<path class=\"{class}\" d=\"M{x1:.1} {y1:.1} C{x1:.1} {middle:.1} {x2:.1} {middle:.1} {x2:.1} {y2:.1}\"/>\n")
+    format!(
+        "<path class=\"{class}\" d=\"M{x1:.1} {y1:.1} C{x1:.1} {middle:.1} {x2:.1} {middle:.1} {x2:.1} {y2:.1}\"/>\n"
+    )
 }
 
 /// Undefeated: round ends. Defeated: cut corners.
@@ -161,19 +204,37 @@ fn shape(undefeated: bool, x: f64, y: f64, width: f64, height: f64) -> String {
     let cut = 10.0;
     let (right, bottom) = (x + width, y + height);
     let corners = [
-        (x + cut, y), (right - cut, y), (right, y + cut), (right, bottom - cut),
-        (right - cut, bottom), (x + cut, bottom), (x, bottom - cut), (x, y + cut),
+        (x + cut, y),
+        (right - cut, y),
+        (right, y + cut),
+        (right, bottom - cut),
+        (right - cut, bottom),
+        (x + cut, bottom),
+        (x, bottom - cut),
+        (x, y + cut),
     ];
-    let points: Vec<String> = corners.iter().map(|(x, y)| format!("{x:.1},{y:.1}")).collect();
+    let points: Vec<String> = corners
+        .iter()
+        .map(|(x, y)| format!("{x:.1},{y:.1}"))
+        .collect();
     format!("<polygon class=\"D\" points=\"{}\"/>\n", points.join(" "))
 }
 
 fn draw(node: &Told, place: &Box) -> String {
-    let mut svg = shape(node.undefeated, place.left, place.top, place.width, place.height);
+    let mut svg = shape(
+        node.undefeated,
+        place.left,
+        place.top,
+        place.width,
+        place.height,
+    );
     let x = place.left + place.width / 2.0;
     for (index, (class, line)) in place.lines.iter().enumerate() {
         let y = place.top + PAD / 2.0 + 12.0 + LINE * index as f64;
-        svg += &format!("<text class=\"{class}\" x=\"{x:.1}\" y=\"{y:.1}\">{}</text>\n", escape(line));
+        svg += &format!(
+            "<text class=\"{class}\" x=\"{x:.1}\" y=\"{y:.1}\">{}</text>\n",
+            escape(line)
+        );
     }
     svg
 }
@@ -181,9 +242,11 @@ fn draw(node: &Told, place: &Box) -> String {
 fn legend(y: f64) -> String {
     let mut svg = format!("<g transform=\"translate({MARGIN} {y:.0})\">\n");
     svg += &(shape(true, 0.0, -14.0, 34.0, 22.0) + "<text x=\"42\" y=\"1\">U undefeated</text>\n");
-    svg += &(shape(false, 150.0, -14.0, 34.0, 22.0) + "<text x=\"192\" y=\"1\">D defeated</text>\n");
+    svg +=
+        &(shape(false, 150.0, -14.0, 34.0, 22.0) + "<text x=\"192\" y=\"1\">D defeated</text>\n");
     svg += "<path class=\"p\" d=\"M290 -3 h36\"/><text x=\"334\" y=\"1\">proper defeater</text>\n";
-    svg += "<path class=\"b\" d=\"M464 -3 h36\"/><text x=\"508\" y=\"1\">blocking defeater</text>\n";
+    svg +=
+        "<path class=\"b\" d=\"M464 -3 h36\"/><text x=\"508\" y=\"1\">blocking defeater</text>\n";
     svg + "</g>\n"
 }
 
@@ -203,5 +266,7 @@ fn wrap(text: &str, most: usize) -> Vec<String> {
 }
 
 fn escape(text: &str) -> String {
-    text.replace('&', "&amp;").replace('<', "&lt;").replace('>', "&gt;")
+    text.replace('&', "&amp;")
+        .replace('<', "&lt;")
+        .replace('>', "&gt;")
 }

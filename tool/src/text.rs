@@ -49,7 +49,10 @@ pub struct Source {
 const DEEPEST: usize = 16;
 
 pub fn read(text: &str) -> Result<Source, Flaw> {
-    let mut reader = Reader { tokens: tokens(text), at: 0 };
+    let mut reader = Reader {
+        tokens: tokens(text),
+        at: 0,
+    };
     let mut source = Source::default();
     while *reader.peek() != Token::End {
         reader.statement(&mut source)?;
@@ -59,13 +62,20 @@ pub fn read(text: &str) -> Result<Source, Flaw> {
 
 /// One literal that is the whole text, as on a command line.
 pub fn read_literal(text: &str) -> Result<Literal, Flaw> {
-    let mut reader = Reader { tokens: tokens(text), at: 0 };
+    let mut reader = Reader {
+        tokens: tokens(text),
+        at: 0,
+    };
     let literal = reader.literal()?;
     match reader.peek() {
         Token::End => Ok(literal),
         other => {
             let what = format!("{} after the literal", other.shown());
-            Err(Flaw::new(reader.span(), what, "ask about one literal, such as `fits` or `~fits`"))
+            Err(Flaw::new(
+                reader.span(),
+                what,
+                "ask about one literal, such as `fits` or `~fits`",
+            ))
         }
     }
 }
@@ -121,11 +131,19 @@ impl Reader {
         let (word, at) = self.next();
         if word != Token::Name("atoms".to_string()) {
             let what = format!("{} is no directive", word.shown());
-            return Err(Flaw::new(at, what, "the one directive is `:- atoms a, b, c.`"));
+            return Err(Flaw::new(
+                at,
+                what,
+                "the one directive is `:- atoms a, b, c.`",
+            ));
         }
         loop {
             if *self.peek() == Token::Not {
-                return Err(Flaw::new(self.span(), "a `~` among the atoms", "write the atom alone; it stands for both signs"));
+                return Err(Flaw::new(
+                    self.span(),
+                    "a `~` among the atoms",
+                    "write the atom alone; it stands for both signs",
+                ));
             }
             declared.push(self.atom()?);
             if !self.take(Token::Comma) {
@@ -139,7 +157,11 @@ impl Reader {
             (Token::Name(name), at) => Ok(Named { name, at }),
             (other, at) => {
                 let what = format!("{} where a rule's label should stand", other.shown());
-                Err(Flaw::new(at, what, "write two labels, as in `bulletin_7 > bulletin_3.`"))
+                Err(Flaw::new(
+                    at,
+                    what,
+                    "write two labels, as in `bulletin_7 > bulletin_3.`",
+                ))
             }
         }
     }
@@ -149,8 +171,13 @@ impl Reader {
         self.next();
         let second = self.label()?;
         if *self.peek() == Token::Greater {
-            let help = "pairs are not chained: write each pair that counts as its own line, as in `a > b.` and `b > c.`";
-            return Err(Flaw::new(self.span(), "a second `>` in one preference", help));
+            let help =
+                "pairs are not chained: write each pair that counts as its own line, as in `a > b.` and `b > c.`";
+            return Err(Flaw::new(
+                self.span(),
+                "a second `>` in one preference",
+                help,
+            ));
         }
         preferences.push(Preference { first, second });
         self.stop("`.`")
@@ -159,7 +186,12 @@ impl Reader {
     fn rule(&mut self, label: Option<Named>, rules: &mut Vec<Rule>) -> Result<(), Flaw> {
         let head = self.literal()?;
         let sign = self.span();
-        let mut rule = Rule { label, defeasible: *self.peek() == Token::Defeasible, head, body: Vec::new() };
+        let mut rule = Rule {
+            label,
+            defeasible: *self.peek() == Token::Defeasible,
+            head,
+            body: Vec::new(),
+        };
         match self.peek() {
             Token::Strict | Token::Defeasible => {
                 self.next();
@@ -175,7 +207,11 @@ impl Reader {
             }
             _ => {}
         }
-        self.stop(if rule.body.is_empty() { "`.`, `<-` or `-<`" } else { "`,` and the next literal, or `.`" })?;
+        self.stop(if rule.body.is_empty() {
+            "`.`, `<-` or `-<`"
+        } else {
+            "`,` and the next literal, or `.`"
+        })?;
         rules.push(rule);
         Ok(())
     }
@@ -186,10 +222,16 @@ impl Reader {
         if truth || *self.peek() == Token::Dot {
             let at = if truth { self.span() } else { sign };
             return Err(if rule.defeasible {
-                let help = format!("name what it rests on, as in `{head} -< reason.`, or write the fact `{head}.`");
+                let help = format!(
+                    "name what it rests on, as in `{head} -< reason.`, or write the fact `{head}.`"
+                );
                 Flaw::new(at, "a defeasible rule without a body", help)
             } else {
-                Flaw::new(at, "a strict rule without a body", format!("write the fact as `{head}.`"))
+                Flaw::new(
+                    at,
+                    "a strict rule without a body",
+                    format!("write the fact as `{head}.`"),
+                )
             });
         }
         loop {
@@ -204,37 +246,72 @@ impl Reader {
         let start = self.span();
         let negated = self.take(Token::Not);
         if *self.peek() == Token::Not {
-            return Err(Flaw::new(self.span(), "a second `~`", "write the literal with one `~` or with none"));
+            return Err(Flaw::new(
+                self.span(),
+                "a second `~`",
+                "write the literal with one `~` or with none",
+            ));
         }
         let atom = self.atom()?;
-        let length = atom.at.length + if negated && atom.at.line == start.line { atom.at.column - start.column } else { 0 };
-        let at = if negated && atom.at.line == start.line { Span { length, ..start } } else { atom.at };
+        let length = atom.at.length
+            + if negated && atom.at.line == start.line {
+                atom.at.column - start.column
+            } else {
+                0
+            };
+        let at = if negated && atom.at.line == start.line {
+            Span { length, ..start }
+        } else {
+            atom.at
+        };
         Ok(Literal { atom, negated, at })
     }
 
     fn atom(&mut self) -> Result<Named, Flaw> {
         let (token, at) = self.next();
-        let Token::Name(name) = token else { return Err(stray(&token, at)) };
+        let Token::Name(name) = token else {
+            return Err(stray(&token, at));
+        };
         if name == "not" && matches!(self.peek(), Token::Name(_) | Token::Not) {
             let help = "there is no negation as failure here; `~` is strong negation";
             return Err(Flaw::new(at, "`not` before a literal", help));
         }
         if is_variable(&name) {
             let small = name.trim_start_matches('_').to_lowercase();
-            let small = if small.starts_with(char::is_alphabetic) { small } else { format!("a{small}") };
+            let small = if small.starts_with(char::is_alphabetic) {
+                small
+            } else {
+                format!("a{small}")
+            };
             let what = format!("`{name}` is written like a variable");
-            return Err(Flaw::new(at, what, format!("an atom starts with a small letter: write `{small}`")));
+            return Err(Flaw::new(
+                at,
+                what,
+                format!("an atom starts with a small letter: write `{small}`"),
+            ));
         }
-        let inner = if self.take(Token::Open) { self.terms(at, 1)? } else { String::new() };
+        let inner = if self.take(Token::Open) {
+            self.terms(at, 1)?
+        } else {
+            String::new()
+        };
         let last = self.tokens[self.at.saturating_sub(1)].1;
-        let length = if last.line == at.line { last.column + last.length - at.column } else { at.length };
-        Ok(Named { name: name + &inner, at: Span { length, ..at } })
+        let length = if last.line == at.line {
+            last.column + last.length - at.column
+        } else {
+            at.length
+        };
+        Ok(Named {
+            name: name + &inner,
+            at: Span { length, ..at },
+        })
     }
 
     /// The arguments of a term after its `(`, in one spelling whatever the blanks.
     fn terms(&mut self, open: Span, depth: usize) -> Result<String, Flaw> {
         if depth > DEEPEST {
-            let help = format!("terms nest at most {DEEPEST} deep: give the inner one a name of its own");
+            let help =
+                format!("terms nest at most {DEEPEST} deep: give the inner one a name of its own");
             return Err(Flaw::new(open, "a term nested too deep", help));
         }
         let mut terms = Vec::new();
@@ -245,7 +322,11 @@ impl Reader {
                 (Token::Close, _) => return Ok(format!("({})", terms.join(", "))),
                 (other, at) => {
                     let what = format!("expected `,` or `)`, found {}", other.shown());
-                    return Err(Flaw::new(at, what, "write a term as `bird(tina)` or `flies(tina, high)`"));
+                    return Err(Flaw::new(
+                        at,
+                        what,
+                        "write a term as `bird(tina)` or `flies(tina, high)`",
+                    ));
                 }
             }
         }
@@ -258,13 +339,21 @@ impl Reader {
                 Err(Flaw::new(at, format!("`{name}` is a variable"), help))
             }
             (Token::Name(name), at) => {
-                let inner = if self.take(Token::Open) { self.terms(at, depth + 1)? } else { String::new() };
+                let inner = if self.take(Token::Open) {
+                    self.terms(at, depth + 1)?
+                } else {
+                    String::new()
+                };
                 Ok(name + &inner)
             }
             (Token::Number(number), _) => Ok(number),
             (other, at) => {
                 let what = format!("expected an argument, found {}", other.shown());
-                Err(Flaw::new(at, what, "write a term as `bird(tina)` or `flies(tina, high)`"))
+                Err(Flaw::new(
+                    at,
+                    what,
+                    "write a term as `bird(tina)` or `flies(tina, high)`",
+                ))
             }
         }
     }
@@ -277,14 +366,26 @@ impl Reader {
         let last = self.tokens[self.at.saturating_sub(1)].1;
         let here = self.span();
         if *self.peek() == Token::End || here.line > last.line {
-            let at = Span { line: last.line, column: last.column + last.length, length: 1 };
-            return Err(Flaw::new(at, "a `.` is missing", "end each fact, rule and preference with `.`"));
+            let at = Span {
+                line: last.line,
+                column: last.column + last.length,
+                length: 1,
+            };
+            return Err(Flaw::new(
+                at,
+                "a `.` is missing",
+                "end each fact, rule and preference with `.`",
+            ));
         }
         if let stray @ Token::Stray(_) = self.peek() {
             return Err(crate::text::stray(stray, here));
         }
         let what = format!("expected {expected}, found {}", self.peek().shown());
-        Err(Flaw::new(here, what, "write `head.`, `head <- body.`, `head -< body.` or `label > label.`"))
+        Err(Flaw::new(
+            here,
+            what,
+            "write `head.`, `head <- body.`, `head -< body.` or `label > label.`",
+        ))
     }
 }
 

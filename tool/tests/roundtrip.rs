@@ -1,0 +1,177 @@
+//! Images to text and back, on random programs.
+
+mod common;
+
+use foqtirel::command::load_text;
+use foqtirel::program::{Program, Rule};
+use foqtirel::{engine, image};
+
+/// A small generator with a seed, so that every run tries the same programs.
+struct Random(u64);
+
+impl Random {
+    fn below(&mut self, bound: usize) -> usize {
+        self.0 = self
+            .0
+            .wrapping_mul(6364136223846793005)
+            .wrapping_add(1442695040888963407);
+        ((self.0 >> 33) as usize) % bound
+    }
+}
+
+fn program(random: &mut Random) -> Program {
+    let atoms = [0, 1, 3, 6, 12, 30, 64][random.below(7)];
+    let mut program = Program {
+        atoms: (0..atoms).map(|atom| format!("a{atom}")).collect(),
+        ..Program::default()
+    };
+    let most = [4, 12, 40, 97][random.below(4)].min(3 * atoms + 1);
+    let wanted = if atoms == 0 { 0 } else { random.below(most) };
+    let mut defeasible = 0;
+    for _ in 0..wanted {
+        let mut body: Vec<u8> = (0..random.below(9).min(random.below(9)))
+            .map(|_| random.below(2 * atoms) as u8)
+            .collect();
+        body.sort_unstable();
+        body.dedup();
+        let yields = defeasible < 16 && !body.is_empty() && random.below(2) == 0;
+        let rule = Rule {
+            label: None,
+            defeasible: yields,
+            head: random.below(2 * atoms) as u8,
+            body,
+        };
+        if !program.rules.contains(&rule) {
+            defeasible += usize::from(yields);
+            program.rules.push(rule);
+        }
+    }
+    let yields: Vec<u8> = (0..program.rules.len())
+        .filter(|&n| program.rules[n].defeasible)
+        .map(|n| n as u8)
+        .collect();
+    for &first in &yields {
+        for &second in yields.iter().filter(|&&second| second != first) {
+            if random.below(4) == 0 {
+                program.pairs.push((first, second));
+            }
+        }
+    }
+    program
+}
+
+/// The same program written by hand, as it were: other names, other blanks, bodies in any order, pairs too.
+fn written(program: &Program, random: &mut Random) -> String {
+    let mut named = program.clone();
+    for (atom, name) in named.atoms.iter_mut().enumerate() {
+        *name = [
+            format!("x_{atom}"),
+            format!("f(c{atom},9)"),
+            format!("g(h( k ),n{atom})"),
+        ][random.below(3)]
+        .clone();
+    }
+    let mut text = String::from("% written\n");
+    for (atom, name) in named.atoms.iter().enumerate() {
+        let end = if atom + 1 == named.atoms.len() {
+            " .\n"
+        } else {
+            ",\n  "
+        };
+        text += &format!("{}{name}{end}", if atom == 0 { ":- atoms\t" } else { "" });
+    }
+    for (number, rule) in named.rules.iter().enumerate() {
+        let mut body: Vec<String> = rule
+            .body
+            .iter()
+            .map(|&literal| named.literal(literal))
+            .collect();
+        let turn = random.below(body.len().max(1));
+        body.rotate_left(turn);
+        let sign = if rule.defeasible { "-<" } else { "<-" };
+        let rest = if body.is_empty() {
+            String::new()
+        } else {
+            format!(" {sign}\n {} ", body.join(" ,"))
+        };
+        text += &format!(
+            "L{number} : {}{rest}. % rule {number}\n",
+            named.literal(rule.head)
+        );
+    }
+    for (first, second) in named.pairs.iter().rev() {
+        text += &format!("L{first}>L{second}.");
+    }
+    text
+}
+
+#[test]
+fn compile_of_show_is_the_image() {
+    common::with_stack(|| {
+        let mut random = Random(20261115);
+        let (mut kept, mut contradictory, mut largest) = (0, 0, 0);
+        while kept < 2000 {
+            let program = program(&mut random);
+            let bytes = image::encode(&program);
+            match engine::check(&bytes) {
+                Ok(()) => kept += 1,
+                Err(refusal) => {
+                    assert_eq!(refusal.number, 14);
+                    contradictory += 1;
+                    assert!(load_text(&program_text(&bytes))
+                        .unwrap_err()
+                        .what
+                        .contains("derive"));
+                    continue;
+                }
+            }
+            largest = largest.max(bytes.len());
+            assert_eq!(load_text(&program_text(&bytes)).unwrap().0, bytes);
+            assert_eq!(load_text(&written(&program, &mut random)).unwrap().0, bytes);
+        }
+        assert!(
+            contradictory > 100 && largest > 900,
+            "{contradictory} {largest}"
+        );
+    });
+}
+
+fn program_text(bytes: &[u8]) -> String {
+    image::decode(bytes).unwrap().text()
+}
+
+#[test]
+fn the_commands_go_round_too() {
+    let directory = common::scratch("roundtrip");
+    for name in [
+        "F",
+        "T",
+        "empty",
+        "full1836",
+        "atoms64",
+        "rules96pairs120",
+        "bodies8",
+        "noargs",
+    ] {
+        let image = common::root().join(format!("tests/vectors/{name}.img"));
+        let shown = common::run(&["show", image.to_str().unwrap()]);
+        assert_eq!(shown.status, 0, "{}", shown.err);
+        let (text, back) = (
+            directory.join(format!("{name}.delp")),
+            directory.join(format!("{name}.img")),
+        );
+        std::fs::write(&text, shown.out).unwrap();
+        let compiled = common::run(&[
+            "compile",
+            text.to_str().unwrap(),
+            "-o",
+            back.to_str().unwrap(),
+        ]);
+        assert_eq!(compiled.status, 0, "{}", compiled.err);
+        assert_eq!(
+            std::fs::read(back).unwrap(),
+            std::fs::read(image).unwrap(),
+            "{name}"
+        );
+    }
+}
