@@ -4,7 +4,7 @@ use std::collections::HashMap;
 
 use crate::fault::{Flaw, Span};
 use crate::program::{Program, Rule};
-use crate::text::{Literal, Named, Source};
+use crate::source::{self, Literal, Named, Source};
 
 pub const MOST_ATOMS: usize = 64;
 pub const MOST_RULES: usize = 96;
@@ -65,8 +65,6 @@ fn add_rules(
     atoms: &HashMap<&str, u8>,
     program: &mut Program,
 ) -> Result<(), Flaw> {
-    let number =
-        |literal: &Literal| 2 * atoms[literal.atom.name.as_str()] + u8::from(literal.negated);
     let mut labels: HashMap<&str, Span> = HashMap::new();
     let mut defeasible = 0;
     for (index, rule) in source.rules.iter().enumerate() {
@@ -85,46 +83,53 @@ fn add_rules(
         }
         defeasible += usize::from(rule.defeasible);
         limits(index, defeasible, rule)?;
-        let mut body: Vec<u8> = Vec::new();
-        for literal in &rule.body {
-            if body.contains(&number(literal)) {
-                let what = format!("`{}` stands twice in this body", literal.text());
-                return Err(Flaw::new(
-                    literal.at,
-                    what,
-                    "a body is a set: write it once",
-                ));
-            }
-            body.push(number(literal));
-        }
-        body.sort_unstable();
-        let head = number(&rule.head);
-        let same = |other: &Rule| {
-            (other.defeasible, other.head, &other.body) == (rule.defeasible, head, &body)
+        let added = Rule {
+            label: rule.label.as_ref().map(|label| label.name.clone()),
+            defeasible: rule.defeasible,
+            head: number(atoms, &rule.head),
+            body: body(atoms, rule)?,
         };
-        if let Some(earlier) = program.rules.iter().position(same) {
-            let what = format!(
-                "this rule stands on line {} already",
-                source.rules[earlier].head.at.line
-            );
+        if let Some(earlier) = program
+            .rules
+            .iter()
+            .position(|other| other.same_bytes(&added))
+        {
+            let line = source.rules[earlier].head.at.line;
+            let help = "take one of the two out; the order of a body makes no difference";
             return Err(Flaw::new(
                 rule.head.at,
-                what,
-                "take one of the two out; the order of a body makes no difference",
+                format!("this rule stands on line {line} already"),
+                help,
             ));
         }
-        let label = rule.label.as_ref().map(|label| label.name.clone());
-        program.rules.push(Rule {
-            label,
-            defeasible: rule.defeasible,
-            head,
-            body,
-        });
+        program.rules.push(added);
     }
     Ok(())
 }
 
-fn limits(index: usize, defeasible: usize, rule: &crate::text::Rule) -> Result<(), Flaw> {
+fn number(atoms: &HashMap<&str, u8>, literal: &Literal) -> u8 {
+    2 * atoms[literal.atom.name.as_str()] + u8::from(literal.negated)
+}
+
+fn body(atoms: &HashMap<&str, u8>, rule: &source::Rule) -> Result<Vec<u8>, Flaw> {
+    let mut body = Vec::new();
+    for literal in &rule.body {
+        let number = number(atoms, literal);
+        if body.contains(&number) {
+            let what = format!("`{}` stands twice in this body", literal.text());
+            return Err(Flaw::new(
+                literal.at,
+                what,
+                "a body is a set: write it once",
+            ));
+        }
+        body.push(number);
+    }
+    body.sort_unstable();
+    Ok(body)
+}
+
+fn limits(index: usize, defeasible: usize, rule: &source::Rule) -> Result<(), Flaw> {
     if index == MOST_RULES {
         return Err(Flaw::new(
             rule.head.at,

@@ -143,6 +143,9 @@ const ASCII: Branches = Branches {
 /// The trees, indented; a heading goes before the trees of each literal.
 pub fn trees(program: &Program, told: &[Told], literal: u8, ascii: bool) -> String {
     let mut text = String::new();
+    if !told.is_empty() {
+        text += "U undefeated, D defeated\n\n";
+    }
     for asked in [literal, literal ^ 1] {
         let roots = told
             .iter()

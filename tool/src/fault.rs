@@ -10,6 +10,19 @@ pub struct Span {
     pub length: usize,
 }
 
+impl Span {
+    /// From here to another's end, where that is on the same line.
+    pub fn to(self, end: Span) -> Span {
+        match self.line == end.line && self.column <= end.column {
+            true => Span {
+                length: end.column + end.length - self.column,
+                ..self
+            },
+            false => self,
+        }
+    }
+}
+
 /// Something wrong in a text: where, what, and what to write instead.
 #[derive(Clone, Debug, PartialEq, Eq)]
 pub struct Flaw {
@@ -58,6 +71,12 @@ pub enum Fault {
     Text(String),
     /// The engine turned the order away; the second part says more where more is known.
     Refused(Refusal, String),
+}
+
+impl From<Refusal> for Fault {
+    fn from(refusal: Refusal) -> Fault {
+        Fault::Refused(refusal, String::new())
+    }
 }
 
 impl Fault {

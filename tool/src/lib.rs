@@ -3,6 +3,7 @@
 //! The answers, arguments, trees and marks are the engine's. What this crate adds is the way in (text to
 //! image) and the way out (names, words and pictures), which is tested, not proved.
 
+pub mod asked;
 pub mod command;
 pub mod compile;
 pub mod engine;
@@ -11,7 +12,10 @@ pub mod fault;
 pub mod help;
 pub mod image;
 pub mod lexer;
+pub mod load;
 pub mod program;
 pub mod reason;
+pub mod source;
 pub mod svg;
 pub mod text;
+pub mod words;

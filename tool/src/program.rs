@@ -9,6 +9,13 @@ pub struct Rule {
     pub body: Vec<u8>,
 }
 
+impl Rule {
+    /// Whether two rules are the same in an image, which holds no labels.
+    pub fn same_bytes(&self, other: &Rule) -> bool {
+        (self.defeasible, self.head, &self.body) == (other.defeasible, other.head, &other.body)
+    }
+}
+
 /// Literals are 2 × atom + sign, sign 1 for the strongly negated one.
 #[derive(Clone, Debug, Default, PartialEq, Eq)]
 pub struct Program {

@@ -2,48 +2,7 @@
 
 use crate::fault::{Flaw, Span};
 use crate::lexer::{tokens, Token};
-
-/// A name with its place: an atom, or a rule's label.
-#[derive(Clone, Debug)]
-pub struct Named {
-    pub name: String,
-    pub at: Span,
-}
-
-#[derive(Clone, Debug)]
-pub struct Literal {
-    pub atom: Named,
-    pub negated: bool,
-    /// From the sign on.
-    pub at: Span,
-}
-
-impl Literal {
-    pub fn text(&self) -> String {
-        format!("{}{}", if self.negated { "~" } else { "" }, self.atom.name)
-    }
-}
-
-#[derive(Clone, Debug)]
-pub struct Rule {
-    pub label: Option<Named>,
-    pub defeasible: bool,
-    pub head: Literal,
-    pub body: Vec<Literal>,
-}
-
-#[derive(Clone, Debug)]
-pub struct Preference {
-    pub first: Named,
-    pub second: Named,
-}
-
-#[derive(Clone, Debug, Default)]
-pub struct Source {
-    pub declared: Vec<Named>,
-    pub rules: Vec<Rule>,
-    pub preferences: Vec<Preference>,
-}
+use crate::source::{Literal, Named, Preference, Rule, Source};
 
 /// Terms nest no deeper, so that no text can use up the stack.
 const DEEPEST: usize = 16;
@@ -197,15 +156,11 @@ impl Reader {
                 self.next();
                 self.body(&mut rule, sign)?;
             }
-            Token::Directive => {
-                let help = "write `<-` for a strict rule or `-<` for a defeasible one";
-                return Err(Flaw::new(sign, "`:-` in a rule", help));
+            other => {
+                if let Some((what, help)) = wrong_sign(other) {
+                    return Err(Flaw::new(sign, what, help));
+                }
             }
-            Token::Comma => {
-                let help = "a rule has one head: write one rule for each, or `.` after a fact";
-                return Err(Flaw::new(sign, "`,` after a head", help));
-            }
-            _ => {}
         }
         self.stop(if rule.body.is_empty() {
             "`.`, `<-` or `-<`"
@@ -253,17 +208,7 @@ impl Reader {
             ));
         }
         let atom = self.atom()?;
-        let length = atom.at.length
-            + if negated && atom.at.line == start.line {
-                atom.at.column - start.column
-            } else {
-                0
-            };
-        let at = if negated && atom.at.line == start.line {
-            Span { length, ..start }
-        } else {
-            atom.at
-        };
+        let at = start.to(atom.at);
         Ok(Literal { atom, negated, at })
     }
 
@@ -296,14 +241,9 @@ impl Reader {
             String::new()
         };
         let last = self.tokens[self.at.saturating_sub(1)].1;
-        let length = if last.line == at.line {
-            last.column + last.length - at.column
-        } else {
-            at.length
-        };
         Ok(Named {
             name: name + &inner,
-            at: Span { length, ..at },
+            at: at.to(last),
         })
     }
 
@@ -391,6 +331,29 @@ impl Reader {
 
 fn is_variable(name: &str) -> bool {
     name.starts_with(|c: char| c == '_' || c.is_uppercase())
+}
+
+/// What is wrong with a token right after a head, and what to write.
+fn wrong_sign(token: &Token) -> Option<(&'static str, &'static str)> {
+    match token {
+        Token::Directive => Some((
+            "`:-` in a rule",
+            "write `<-` for a strict rule or `-<` for a defeasible one",
+        )),
+        Token::Comma => Some((
+            "`,` after a head",
+            "a rule has one head: write one rule for each, or `.` after a fact",
+        )),
+        Token::Colon => Some((
+            "`:` after a literal",
+            "a label is one name, as in `bulletin_7: fits -< base.`",
+        )),
+        Token::Greater => Some((
+            "`>` after a literal",
+            "a preference is between labels: write `label: ` before each of the two rules",
+        )),
+        _ => None,
+    }
 }
 
 /// A token where a literal should stand.

@@ -2,7 +2,7 @@
 
 mod common;
 
-use foqtirel::command::load_text;
+use foqtirel::load::load_text;
 use foqtirel::program::{Program, Rule};
 use foqtirel::{engine, image};
 

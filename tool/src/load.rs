@@ -1,0 +1,116 @@
+//! Files to programs, with every reason why one can't be had.
+
+use std::fs;
+
+use crate::compile::compile;
+use crate::engine::{self, Refusal};
+use crate::fault::{Fault, Flaw, Span};
+use crate::program::Program;
+use crate::{image, reason, text};
+
+/// A program with its image, which the engine has accepted.
+pub struct Loaded {
+    pub image: Vec<u8>,
+    pub program: Program,
+    pub from_image: bool,
+}
+
+/// A file by its name: an image where that ends in `.img`, else a text.
+pub fn load(path: &str) -> Result<Loaded, Fault> {
+    if path.ends_with(".img") {
+        return load_image(path);
+    }
+    let bytes = read(path)?;
+    let text = match String::from_utf8(bytes) {
+        Ok(text) => text,
+        Err(error) => {
+            return Err(Fault::Text(not_text(
+                path,
+                error.utf8_error().valid_up_to(),
+                error.as_bytes(),
+            )))
+        }
+    };
+    let (image, program) =
+        load_text(&text).map_err(|flaw| Fault::Text(flaw.render(path, &text)))?;
+    engine::check(&image)?;
+    Ok(Loaded {
+        image,
+        program,
+        from_image: false,
+    })
+}
+
+/// The image and the program of a text. A contradiction is told here, where the lines are known.
+pub fn load_text(text: &str) -> Result<(Vec<u8>, Program), Flaw> {
+    let source = text::read(text)?;
+    let program = compile(&source)?;
+    let image = image::encode(&program);
+    if engine::check(&image)
+        == Err(Refusal {
+            number: 14,
+            place: 0,
+        })
+    {
+        if let Some((rule, earlier)) = reason::clash(&program) {
+            let (head, line) = (&source.rules[rule].head, source.rules[earlier].head.at.line);
+            let other = program.literal(program.rules[earlier].head);
+            let what = format!(
+                "the facts and strict rules derive `{}` here and `{other}` on line {line}",
+                head.text()
+            );
+            let help = "together they may not contradict each other: write one of them with `-<`, or take one out";
+            return Err(Flaw::new(head.at, what, help));
+        }
+    }
+    Ok((image, program))
+}
+
+pub fn load_image(path: &str) -> Result<Loaded, Fault> {
+    let image = read(path)?;
+    let program = image::decode(&image);
+    match (engine::check(&image), program) {
+        (Ok(()), Some(program)) => Ok(Loaded {
+            image,
+            program,
+            from_image: true,
+        }),
+        (Ok(()), None) => Err(Fault::Usage(format!(
+            "{path} was accepted but cannot be shown"
+        ))),
+        (Err(refusal), program) => {
+            let clash = program
+                .filter(|_| refusal.number == 14)
+                .and_then(|program| {
+                    let (rule, earlier) = reason::clash(&program)?;
+                    let derived =
+                        [rule, earlier].map(|number| program.literal(program.rules[number].head));
+                    Some(format!(
+                        "they derive {} (rule {rule}) and {} (rule {earlier})",
+                        derived[0], derived[1]
+                    ))
+                });
+            Err(Fault::Refused(refusal, clash.unwrap_or_default()))
+        }
+    }
+}
+
+fn read(path: &str) -> Result<Vec<u8>, Fault> {
+    fs::read(path).map_err(|error| Fault::Usage(format!("cannot read {path}: {error}")))
+}
+
+fn not_text(path: &str, sound: usize, bytes: &[u8]) -> String {
+    let lead = String::from_utf8_lossy(&bytes[..sound]);
+    let line = lead.matches('\n').count() + 1;
+    let column = lead.chars().rev().take_while(|&c| c != '\n').count() + 1;
+    let flaw = Flaw::new(
+        Span {
+            line,
+            column,
+            length: 1,
+        },
+        "a byte that is not UTF-8 text",
+        "save the program as UTF-8; the name of an image ends in .img",
+    );
+    flaw.render(path, &String::from_utf8_lossy(bytes))
+}
