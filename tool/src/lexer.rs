@@ -37,7 +37,8 @@ impl Token {
             Token::Greater => ">",
             Token::Open => "(",
             Token::Close => ")",
-            Token::Stray(c) => return format!("`{}`", c.escape_debug()),
+            Token::Stray(c) if c.is_control() => return format!("`{}`", c.escape_debug()),
+            Token::Stray(c) => return format!("`{c}`"),
             Token::End => return "the end of the text".to_string(),
         };
         format!("`{text}`")

@@ -1,12 +1,18 @@
 //! Files to programs, with every reason why one can't be had.
 
 use std::fs;
+use std::io::Read;
 
 use crate::compile::compile;
 use crate::engine::{self, Refusal};
 use crate::fault::{Fault, Flaw, Span};
 use crate::program::Program;
 use crate::{image, reason, text};
+
+/// The longest image; the engine refuses a longer one.
+const MOST_IMAGE: u64 = 1836;
+/// Far more than 96 rules and their comments need.
+const MOST_TEXT: u64 = 1 << 24;
 
 /// A program with its image, which the engine has accepted.
 pub struct Loaded {
@@ -20,7 +26,12 @@ pub fn load(path: &str) -> Result<Loaded, Fault> {
     if path.ends_with(".img") {
         return load_image(path);
     }
-    let bytes = read(path)?;
+    let bytes = read(path, MOST_TEXT)?;
+    if bytes.len() as u64 > MOST_TEXT {
+        return Err(Fault::Usage(format!(
+            "{path} has over {MOST_TEXT} bytes: that is no program text"
+        )));
+    }
     let text = match String::from_utf8(bytes) {
         Ok(text) => text,
         Err(error) => {
@@ -66,37 +77,47 @@ pub fn load_text(text: &str) -> Result<(Vec<u8>, Program), Flaw> {
     Ok((image, program))
 }
 
+/// An image, decoded only once the engine has found it sound but for a contradiction.
 pub fn load_image(path: &str) -> Result<Loaded, Fault> {
-    let image = read(path)?;
-    let program = image::decode(&image);
-    match (engine::check(&image), program) {
-        (Ok(()), Some(program)) => Ok(Loaded {
+    let image = read(path, MOST_IMAGE)?;
+    let refusal = engine::check(&image).err();
+    if let Some(refusal) = refusal.filter(|refusal| refusal.number != 14) {
+        return Err(refusal.into());
+    }
+    let Some(program) = image::decode(&image) else {
+        return Err(Fault::Usage(format!(
+            "{path} is accepted but can't be read"
+        )));
+    };
+    match refusal {
+        None => Ok(Loaded {
             image,
             program,
             from_image: true,
         }),
-        (Ok(()), None) => Err(Fault::Usage(format!(
-            "{path} was accepted but cannot be shown"
-        ))),
-        (Err(refusal), program) => {
-            let clash = program
-                .filter(|_| refusal.number == 14)
-                .and_then(|program| {
-                    let (rule, earlier) = reason::clash(&program)?;
-                    let derived =
-                        [rule, earlier].map(|number| program.literal(program.rules[number].head));
-                    Some(format!(
-                        "they derive {} (rule {rule}) and {} (rule {earlier})",
-                        derived[0], derived[1]
-                    ))
-                });
-            Err(Fault::Refused(refusal, clash.unwrap_or_default()))
-        }
+        Some(refusal) => Err(Fault::Refused(refusal, told_clash(&program))),
     }
 }
 
-fn read(path: &str) -> Result<Vec<u8>, Fault> {
-    fs::read(path).map_err(|error| Fault::Usage(format!("cannot read {path}: {error}")))
+fn told_clash(program: &Program) -> String {
+    let Some((rule, earlier)) = reason::clash(program) else {
+        return String::new();
+    };
+    let derived = [rule, earlier].map(|number| program.literal(program.rules[number].head));
+    format!(
+        "they derive {} (rule {rule}) and {} (rule {earlier})",
+        derived[0], derived[1]
+    )
+}
+
+/// The file's bytes, but no more than one past the most: a longer file is told as too long, not taken in whole.
+fn read(path: &str, most: u64) -> Result<Vec<u8>, Fault> {
+    let mut bytes = Vec::new();
+    let result = fs::File::open(path).and_then(|file| file.take(most + 1).read_to_end(&mut bytes));
+    match result {
+        Ok(_) => Ok(bytes),
+        Err(error) => Err(Fault::Usage(format!("cannot read {path}: {error}"))),
+    }
 }
 
 fn not_text(path: &str, sound: usize, bytes: &[u8]) -> String {

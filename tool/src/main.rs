@@ -16,14 +16,14 @@ fn main() -> ExitCode {
         return ExitCode::from(2);
     };
     match result {
-        // A reader that has gone away is no error of this program.
         Ok(text) => {
-            let written = std::io::stdout()
-                .write_all(text.as_bytes())
-                .and_then(|()| std::io::stdout().flush());
+            let mut out = std::io::stdout();
+            let written = out.write_all(text.as_bytes()).and_then(|()| out.flush());
+            // An answer that nobody could read is no success.
             ExitCode::from(if written.is_ok() { 0 } else { 2 })
         }
         Err(fault) => {
+            // Where even this can't be written, the status still tells.
             let _ = std::io::stderr().write_all(fault.render().as_bytes());
             ExitCode::from(fault.status())
         }

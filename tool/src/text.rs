@@ -317,15 +317,10 @@ impl Reader {
                 "end each fact, rule and preference with `.`",
             ));
         }
-        if let stray @ Token::Stray(_) = self.peek() {
-            return Err(crate::text::stray(stray, here));
-        }
         let what = format!("expected {expected}, found {}", self.peek().shown());
-        Err(Flaw::new(
-            here,
-            what,
-            "write `head.`, `head <- body.`, `head -< body.` or `label > label.`",
-        ))
+        let help = stray_help(self.peek())
+            .unwrap_or("write `head.`, `head <- body.`, `head -< body.` or `label > label.`");
+        Err(Flaw::new(here, what, help))
     }
 }
 
@@ -359,13 +354,24 @@ fn wrong_sign(token: &Token) -> Option<(&'static str, &'static str)> {
 /// A token where a literal should stand.
 fn stray(token: &Token, at: Span) -> Flaw {
     let what = format!("expected a literal, found {}", token.shown());
-    let help = match token {
-        Token::Stray('-' | '!' | '¬' | '\\') => "strong negation is written `~`, as in `~fits`",
-        Token::Stray('<' | '←') => "a strict rule is written with `<-`, a defeasible one with `-<`",
-        Token::Stray('/' | '#') => "a comment starts with `%`",
-        Token::Stray(_) => "names have letters, digits and `_`",
+    let help = stray_help(token).unwrap_or(match token {
         Token::Number(_) => "an atom starts with a small letter",
         _ => "a literal is an atom such as `fits` or `bird(tina)`, with `~` before it where it is negated",
-    };
+    });
     Flaw::new(at, what, help)
+}
+
+/// What to write for a character that other languages use.
+fn stray_help(token: &Token) -> Option<&'static str> {
+    match token {
+        Token::Stray('-' | '!' | '¬' | '\\') => {
+            Some("strong negation is written `~`, as in `~fits`")
+        }
+        Token::Stray('<' | '←' | '=') => {
+            Some("a strict rule is written with `<-`, a defeasible one with `-<`")
+        }
+        Token::Stray('/' | '#') => Some("a comment starts with `%`"),
+        Token::Stray(_) => Some("names have letters, digits and `_`"),
+        _ => None,
+    }
 }

@@ -175,3 +175,25 @@ fn the_commands_go_round_too() {
         );
     }
 }
+
+/// Damaged images are refused or read, and what is accepted goes round.
+#[test]
+fn no_image_makes_the_reader_fault() {
+    common::with_stack(|| {
+        let mut random = Random(8);
+        for _ in 0..3000 {
+            let mut bytes = image::encode(&program(&mut random));
+            for _ in 0..random.below(4) {
+                let at = random.below(bytes.len());
+                bytes[at] = [random.below(256), random.below(8), 255][random.below(3)] as u8;
+            }
+            if random.below(4) == 0 {
+                bytes.truncate(random.below(bytes.len()));
+            }
+            let decoded = image::decode(&bytes);
+            if engine::check(&bytes).is_ok() {
+                assert_eq!(load_text(&decoded.unwrap().text()).unwrap().0, bytes);
+            }
+        }
+    });
+}

@@ -65,6 +65,11 @@ fn wrong_usage() {
         ),
         (&["tree", "shop.delp", "pod_fits"], "`--svg OUT` is missing"),
     ];
+    let mut wrong = wrong.to_vec();
+    let long = common::scratch("usage").join("long.delp");
+    std::fs::write(&long, "%".repeat((1 << 24) + 1)).unwrap();
+    let words = ["advise", long.to_str().unwrap()];
+    wrong.push((&words, "that is no program text"));
     for (words, told) in wrong {
         let ran = run(words);
         assert!(
