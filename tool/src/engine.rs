@@ -5,6 +5,9 @@ pub const TABLE: usize = 4096;
 /// The greatest budget, in nodes.
 pub const MOST_NODES: u32 = 4096;
 
+/// The refusal of a program whose facts and strict rules contradict each other.
+pub const CONTRADICTION: u32 = 14;
+
 #[link(name = "probe", kind = "static")]
 extern "C" {
     /// 0 for an accepted image, otherwise number × 2^32 + place.
@@ -89,7 +92,7 @@ impl Refusal {
             11 => "the last part does not hold the pairs",
             12 => "a pair is not of two defeasible rules",
             13 => "the pairs do not ascend",
-            14 => "the facts and strict rules contradict each other",
+            CONTRADICTION => "the facts and strict rules contradict each other",
             20 => "a literal is below 128",
             21 => "a budget is at most 4,096",
             22 => "the node table is shorter than the budget",

@@ -2,11 +2,13 @@
 
 use std::fs;
 use std::io::Read;
+use std::string::FromUtf8Error;
 
 use crate::compile::compile;
-use crate::engine::{self, Refusal};
+use crate::engine::{self, CONTRADICTION};
 use crate::fault::{Fault, Flaw, Span};
 use crate::program::Program;
+use crate::source::Source;
 use crate::{image, reason, text};
 
 /// The longest image; the engine refuses a longer one.
@@ -34,13 +36,7 @@ pub fn load(path: &str) -> Result<Loaded, Fault> {
     }
     let text = match String::from_utf8(bytes) {
         Ok(text) => text,
-        Err(error) => {
-            return Err(Fault::Text(not_text(
-                path,
-                error.utf8_error().valid_up_to(),
-                error.as_bytes(),
-            )))
-        }
+        Err(error) => return Err(not_text(path, error)),
     };
     let (image, program) =
         load_text(&text).map_err(|flaw| Fault::Text(flaw.render(path, &text)))?;
@@ -57,31 +53,31 @@ pub fn load_text(text: &str) -> Result<(Vec<u8>, Program), Flaw> {
     let source = text::read(text)?;
     let program = compile(&source)?;
     let image = image::encode(&program);
-    if engine::check(&image)
-        == Err(Refusal {
-            number: 14,
-            place: 0,
-        })
-    {
-        if let Some((rule, earlier)) = reason::clash(&program) {
-            let (head, line) = (&source.rules[rule].head, source.rules[earlier].head.at.line);
-            let other = program.literal(program.rules[earlier].head);
-            let what = format!(
-                "the facts and strict rules derive `{}` here and `{other}` on line {line}",
-                head.text()
-            );
-            let help = "together they may not contradict each other: write one of them with `-<`, or take one out";
-            return Err(Flaw::new(head.at, what, help));
-        }
+    let contradictory = engine::check(&image).is_err_and(|refusal| refusal.number == CONTRADICTION);
+    match reason::clash(&program).filter(|_| contradictory) {
+        Some((rule, earlier)) => Err(clash_flaw(&source, rule, earlier)),
+        None => Ok((image, program)),
     }
-    Ok((image, program))
+}
+
+fn clash_flaw(source: &Source, rule: usize, earlier: usize) -> Flaw {
+    let [here, there] = [rule, earlier].map(|number| &source.rules[number].head);
+    let what = format!(
+        "the facts and strict rules derive `{}` here and `{}` on line {}",
+        here.text(),
+        there.text(),
+        there.at.line
+    );
+    let help =
+        "together they may not contradict each other: write one of them with `-<`, or take one out";
+    Flaw::new(here.at, what, help)
 }
 
 /// An image, decoded only once the engine has found it sound but for a contradiction.
 pub fn load_image(path: &str) -> Result<Loaded, Fault> {
     let image = read(path, MOST_IMAGE)?;
     let refusal = engine::check(&image).err();
-    if let Some(refusal) = refusal.filter(|refusal| refusal.number != 14) {
+    if let Some(refusal) = refusal.filter(|refusal| refusal.number != CONTRADICTION) {
         return Err(refusal.into());
     }
     let Some(program) = image::decode(&image) else {
@@ -120,18 +116,21 @@ fn read(path: &str, most: u64) -> Result<Vec<u8>, Fault> {
     }
 }
 
-fn not_text(path: &str, sound: usize, bytes: &[u8]) -> String {
-    let lead = String::from_utf8_lossy(&bytes[..sound]);
+fn not_text(path: &str, error: FromUtf8Error) -> Fault {
+    let sound = error.utf8_error().valid_up_to();
+    let lead = String::from_utf8_lossy(&error.as_bytes()[..sound]);
     let line = lead.matches('\n').count() + 1;
     let column = lead.chars().rev().take_while(|&c| c != '\n').count() + 1;
+    let what = "a byte that is not UTF-8 text";
+    let help = "save the program as UTF-8; the name of an image ends in .img";
     let flaw = Flaw::new(
         Span {
             line,
             column,
             length: 1,
         },
-        "a byte that is not UTF-8 text",
-        "save the program as UTF-8; the name of an image ends in .img",
+        what,
+        help,
     );
-    flaw.render(path, &String::from_utf8_lossy(bytes))
+    Fault::Text(flaw.render(path, &String::from_utf8_lossy(error.as_bytes())))
 }

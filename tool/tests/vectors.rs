@@ -113,3 +113,29 @@ fn a_literal_of_an_image_goes_by_name_or_number() {
         (1, "refused 20 0: a literal is below 128\n")
     );
 }
+
+/// Rules that beat each other leave neither preferred, and that is said.
+#[test]
+fn explain_tells_pairs_in_both_directions() {
+    let told = "\
+U undefeated, D defeated
+
+1 argument for a4:
+
+D  a4  (by r3)
+`- U  ~a4  (by r0)
+      blocking defeater: attacks a4; neither is preferred: r0 beats r3 and r3 beats r0
+
+1 argument for ~a4:
+
+D  ~a4  (by r0)
+|- U  ~a3  (by ~a3 -< a0)
+|     blocking defeater: attacks ~a4, which excludes ~a3; neither is preferred
+`- U  a4  (by r3)
+      blocking defeater: attacks ~a4; neither is preferred: r3 beats r0 and r0 beats r3
+
+UNDECIDED (5 nodes): neither a4 nor ~a4 is warranted.
+";
+    let ran = common::run(&["explain", "../tests/vectors/back.img", "a4", "--ascii"]);
+    assert_eq!((ran.status, ran.out.as_str()), (0, told));
+}
