@@ -143,3 +143,28 @@ fn a_picture_has_every_node() {
     assert_eq!((shapes, roots < 50), (4096 + 2, true));
     assert!(!svg.contains(" -< ") && svg.ends_with("</svg>\n"));
 }
+
+/// Marks by shape and colour, kinds by solid and dashed lines, each once more in the legend.
+#[test]
+fn a_picture_tells_marks_and_kinds_apart() {
+    let out = common::scratch("picture").join("P05.svg");
+    let ran = common::run(&[
+        "tree",
+        "fittings/P05.delp",
+        "b",
+        "--svg",
+        out.to_str().unwrap(),
+    ]);
+    assert_eq!(ran.status, 0, "{}", ran.err);
+    let svg = fs::read_to_string(out).unwrap();
+    let count = |mark: &str| svg.matches(mark).count() - 1;
+    assert_eq!(
+        (count("<rect class=\"U\""), count("<polygon class=\"D\"")),
+        (4, 2)
+    );
+    assert_eq!(
+        (count("<path class=\"p\""), count("<path class=\"b\"")),
+        (2, 2)
+    );
+    assert_eq!(count("stroke-dasharray"), 0);
+}
