@@ -14,7 +14,7 @@ use base.Logic.{SProp, ent, emp, id⊢, via, fst∗, exE, snd∗}
 use base.Fml.{Lft, Share, Fml, ftrue, flft}
 use prog.Wp.{Heap, Env, Calls, Loops, WpFn, Tables}
 use ghost.Atoms.{Atoms, sem}
-use contract.Monad.{fact}
+use contract.Monad.{Fun, fact}
 use types.Kit.{Given, Item, ‵, raw, some, later, ⋆, _⊛_, Post, Goal, Soaks, Seq, runs, lands, _$_, _∵_, !, qed, by, move, group, drop, use0}
 use types.Kit.{use1, split, join, pick, fsplit, fjoin, feqL, suffices, frame, await, done}
 use types.Run.{Opds, look, init, stop, hop, fld, from, load, addr, and-then, no-more, land, returns, enter, alloc1, alloc0}
@@ -237,23 +237,21 @@ module _ {M : Type 1} (𝓤 : URA M) (H : Heap 𝓤) (A : Atoms 𝓤) (R : Rattl
   abbrev pub Looks : Contract 𝓤
   Looks = tripleOf 𝓤 H A (looking R .signature) (closing 𝓤 H A (looking R) looks)
 
-  abbrev to-looks : Answer → Val → Looks .Ghost
+  abbrev pub to-looks : Answer → Val → Looks .Ghost
   to-looks r w = ((tt, tt, tt, (r, tt), (w ∷ [], tt)), tt)
 
-  goes-looks : Given 𝓤 H A → (r : Answer) (w : Val) → Is answer.the-row r (w ∷ []) → ent 𝓤 (emp 𝓤) (Looks .pre (to-looks r w))
+  pub goes-looks : Given 𝓤 H A → (r : Answer) (w : Val) → Is answer.the-row r (w ∷ []) → ent 𝓤 (emp 𝓤) (Looks .pre (to-looks r w))
   goes-looks W r w is =
       qed W [] ∵ nothing ! $
       owned ! answer.the-row (Is answer.the-row) (enums.makes answer.the-type answer-laws.the-plain 𝓤 H A) r (w ∷ []) is $
       nothing ! $ group ! 3 $ frame ! $ done !
 
-  abbrev looks-back : Answer → Val → Item 𝓤
+  abbrev pub looks-back : Answer → Val → Item 𝓤
   looks-back r w = later (some (λ (k : R .Denot). (‵ ftrue ⊛ ‵ (R .own k (w ∷ [])))
       ⊛ raw (ensured 𝓤 H A (looking R) looks tt (r, tt) tt k)))
 
-  looks-said : (r : Answer) (k : R .Denot) → ent 𝓤 (ensured 𝓤 H A (looking R) looks tt (r, tt) tt k) (fact 𝓤 (k ≡ of r))
+  pub looks-said : (r : Answer) (k : R .Denot) → ent 𝓤 (ensured 𝓤 H A (looking R) looks tt (r, tt) tt k) (fact 𝓤 (k ≡ of r))
   looks-said r k = exE 𝓤 _ (λ ws. snd∗ 𝓤 (sem 𝓤 H A (lasts (looking R) tt (r, tt) ws)) (fact 𝓤 (k ≡ of r)))
-
--- ---- `of(query(image, literal, budget, arguments, nodes))`
 
 abbrev stayed : Stays (query.signature .params) (query.ended .kept)
 stayed = (
@@ -266,6 +264,78 @@ stayed = (
     ),
   ),
 )
+
+-- ---- what is left to show of a function with the parameters of `query`, and how it ends
+
+module _ {M : Type 1} (𝓤 : URA M) (H : Heap 𝓤) (A : Atoms 𝓤) (W : Given 𝓤 H A) (R : RattleType) (S : Promise R) where
+  abbrev pub Left : Asked → Val → SProp 𝓤
+  Left q = walkOf 𝓤 H A (asking R) stayed (ensuring 𝓤 H A R S) .post ((lfts q, shares q, tt, five q, vals q), tt)
+
+  abbrev Rest : Asked → List ℕ → List Node → List (Item 𝓤)
+  Rest q za zn =
+      ‵ (flft (q .κn) (q .qn)) ∷ ‵ (finally node.the-row (q .no .name) zn) ∷ ‵ (flft (q .κa) (q .qa))
+      ∷ ‵ (flft (q .κi) (q .qi)) ∷ ‵ (finally u32 (q .ar .name) za) ∷ ‵ (OI q) ∷ []
+
+  pub exits : Makes 𝓤 H A R (Is R) → (q : Asked) (k : R .Denot) (w : Val) (za : List ℕ) (zn : List Node) → Is R k (w ∷ [])
+      → length za ≡ length (q .ar .now) → length zn ≡ length (q .no .now) → Said R S q k za zn
+      → ent 𝓤 (⋆ 𝓤 H A (Rest q za zn)) (Left q w)
+  exits makes q k w za zn is same-length same-nodes e =
+      qed W (Rest q za zn) ∵
+      suffices ! _ (ends-at 𝓤 H A (asking R) stayed (ensuring 𝓤 H A R S) W ((lfts q, shares q, tt, five q, vals q), tt) w k
+      (tt, (tt, (tt, (za, (zn, tt))))) (tt, (tt, (tt, (same-length, (same-nodes, tt)))))) $ says ! e $
+      nothing ! $ move ! (4 ∷ 3 ∷ 1 ∷ 0 ∷ []) $ group ! 4 $ frame ! $
+      -- [the last list of nodes; of arguments; image]
+      nothing ! $ move ! (1 ∷ 0 ∷ []) $ fjoin ! $ move ! (1 ∷ 0 ∷ []) $ fjoin ! $
+      owned ! u32 (Is u32) (uint-makes 𝓤 H A W w32) (q .bu) _ (refl, q .bu-fits) $ fjoin ! $
+      owned ! u32 (Is u32) (uint-makes 𝓤 H A W w32) (q .li) _ (refl, q .li-fits) $ fjoin ! $
+      move ! (1 ∷ 0 ∷ []) $ fjoin ! $ owned ! R (Is R) makes k (w ∷ []) is $ move ! (1 ∷ 0 ∷ []) $ done !
+
+  abbrev ToWalk : Fun 𝓤 → Type 1
+  ToWalk runs-it =
+      (κi κa κn : Lft) (qi qa qn : Share) (im : Words) (li bu : ℕ) (ar : Words) (ns : Nodes) (li-fits : li < 2 ^ 32)
+      (bu-fits : bu < 2 ^ 32) → Is (ShrSlice (named 0) κi u8) im (v im ∷ []) → Room u32 (length (ar .now))
+      → Room node.the-row (length (ns .now)) →
+      let q = lent κi κa κn qi qa qn im li bu ar ns li-fits bu-fits in
+      ent 𝓤 (onEntry 𝓤 H A (asking R .signature) (lfts q) (shares q) (five q) (vals q))
+      (runs-it (v im ∷ vint w32 li ∷ vint w32 bu ∷ v ar ∷ v ns ∷ []) (Left q))
+
+  walks : (runs-it : Fun 𝓤) → ToWalk runs-it → Walks 𝓤 H A (asking R) stayed runs-it (ensuring 𝓤 H A R S)
+  walks runs-it walk =
+      walked 𝓤 H A (asking R) stayed (ensuring 𝓤 H A R S) runs-it
+      (λ κs. (slice-vals, (uint-vals w32, (uint-vals w32, (slice-vals, (slice-vals, tt))))))
+      (λ κs. (
+        shr-slice-tells (named 0) (κs .0) u8,
+        (
+          uint-tells w32,
+          (
+            uint-tells w32,
+            (mut-slice-tells (named 1) (κs .1 .0) u32, (mut-slice-tells (named 2) (κs .1 .1 .0) node.the-row, tt)),
+          ),
+        ),
+      ))
+      (λ κs qs bounds a g are. via 𝓤 _ (fst∗ 𝓤 _ (emp 𝓤)) (
+      walk (κs .0) (κs .1 .0) (κs .1 .1 .0) (qs .0) (qs .1 .0) (qs .1 .1 .0)
+      (a .0) (a .1 .0) (a .1 .1 .0) (a .1 .1 .1 .0) (a .1 .1 .1 .1 .0) (are .1 .0 .1) (are .1 .1 .0 .1)
+      (are .0) (are .1 .1 .1 .0 .0 .1) (are .1 .1 .1 .1 .0 .0 .1)))
+
+  pub walk-asks : (𝓣 : Tables 𝓤 H) (fn : Fn) → ToWalk (WpFn 𝓤 H (𝓣 .C) (𝓣 .Λ) fn)
+      → Meets 𝓤 H A (asking R .signature) (WpFn 𝓤 H (𝓣 .C) (𝓣 .Λ) fn) (closing 𝓤 H A (asking R) (ensuring 𝓤 H A R S))
+  walk-asks 𝓣 fn walk =
+      let number = goes-none 𝓤 H A W 3 (λ _. u32) yes (λ κs x f. refl) in
+      walk-meets 𝓤 H A (asking R) stayed W (
+        goes-none-slice 𝓤 H A W 3 (0 ∷ []) tt (plain (λ _. u8)) yes,
+        (
+          number,
+          (
+            number,
+            (goes-gave-slice 𝓤 H A W 3 1 tt (plain (λ _. u32)), (goes-gave-slice 𝓤 H A W 3 2 tt (plain (λ _. node.the-row)), tt)),
+          ),
+        ),
+      )
+      (ensuring 𝓤 H A R S) (WpFn 𝓤 H (𝓣 .C) (𝓣 .Λ) fn) (WpFn-mono 𝓤 H (W .laws) 𝓣 fn)
+      (walks (WpFn 𝓤 H (𝓣 .C) (𝓣 .Λ) fn) walk)
+
+-- ---- `of(query(image, literal, budget, arguments, nodes))`
 
 -- its code, with the type of its result and the name of the function that looks
 abbrev pub asks : Ty → Name → Fn
@@ -303,34 +373,12 @@ module _ {M : Type 1} (𝓤 : URA M) (H : Heap 𝓤) (A : Atoms 𝓤) (W : Given
     abbrev q : Asked
     q = lent κi κa κn qi qa qn im li bu ar no li-fits bu-fits
 
-    abbrev Left : Val → SProp 𝓤
-    Left = walkOf 𝓤 H A (asking R) stayed (ensuring 𝓤 H A R S) .post ((lfts q, shares q, tt, five q, vals q), tt)
-
-    abbrev Rest : List ℕ → List Node → List (Item 𝓤)
-    Rest za zn =
-        ‵ (flft κn qn) ∷ ‵ (finally node.the-row (no .name) zn) ∷ ‵ (flft κa qa) ∷ ‵ (flft κi qi)
-        ∷ ‵ (finally u32 (ar .name) za) ∷ ‵ (OI q) ∷ []
-
-    exits : (k : R .Denot) (w : Val) (za : List ℕ) (zn : List Node) → Is R k (w ∷ []) → length za ≡ length (ar .now)
-        → length zn ≡ length (no .now) → S (im .now) li bu (ar .now) (no .now) k za zn
-        → ent 𝓤 (⋆ 𝓤 H A (Rest za zn)) (Left w)
-    exits k w za zn is same-length same-nodes e =
-        qed W (Rest za zn) ∵
-        suffices ! _ (ends-at 𝓤 H A (asking R) stayed (ensuring 𝓤 H A R S) W ((lfts q, shares q, tt, five q, vals q), tt) w k
-        (tt, (tt, (tt, (za, (zn, tt))))) (tt, (tt, (tt, (same-length, (same-nodes, tt)))))) $ says ! e $
-        nothing ! $ move ! (4 ∷ 3 ∷ 1 ∷ 0 ∷ []) $ group ! 4 $ frame ! $
-        -- [the last list of nodes; of arguments; image]
-        nothing ! $ move ! (1 ∷ 0 ∷ []) $ fjoin ! $ move ! (1 ∷ 0 ∷ []) $ fjoin ! $
-        owned ! u32 (Is u32) (uint-makes 𝓤 H A W w32) bu _ (refl, bu-fits) $ fjoin ! $
-        owned ! u32 (Is u32) (uint-makes 𝓤 H A W w32) li _ (refl, li-fits) $ fjoin ! $ move ! (1 ∷ 0 ∷ []) $ fjoin ! $
-        owned ! R (Is R) makes k (w ∷ []) is $ move ! (1 ∷ 0 ∷ []) $ done !
-
     module _ (C : Calls 𝓤 H) (Λ : Loops 𝓤 H) (fm : FmC 𝓤 H (W .laws) C)
         (known-query : Triple 𝓤 (C query-symbol.name) (Query 𝓤 H A)) (known : Triple 𝓤 (C f) (Looks 𝓤 H A R of)) where
       walk : Is (ShrSlice (named 0) κi u8) im (v im ∷ []) → Room u32 (length (ar .now))
           → Room node.the-row (length (no .now))
           → ent 𝓤 (onEntry 𝓤 H A (asking R .signature) (lfts q) (shares q) (five q) (vals q))
-          (WpFn 𝓤 H C Λ (asks τ f) (v im ∷ vint w32 li ∷ vint w32 bu ∷ v ar ∷ v no ∷ []) Left)
+          (WpFn 𝓤 H C Λ (asks τ f) (v im ∷ vint w32 li ∷ vint w32 bu ∷ v ar ∷ v no ∷ []) (Left 𝓤 H A W R S q))
       walk is-im ar-room no-room =
           qed W ((‵ (flft κi qi) ⊛ ‵ (flft κa qa) ⊛ ‵ (flft κn qn) ⊛ ‵ ftrue)
           ∷ ‵ (owns (ShrSlice (named 0) κi u8 ∷ u32 ∷ u32 ∷ MutSlice (named 1) κa u32 ∷ MutSlice (named 2) κn node.the-row
@@ -378,44 +426,13 @@ module _ {M : Type 1} (𝓤 : URA M) (H : Heap 𝓤) (A : Atoms 𝓤) (W : Given
           frees-cell ! 14 refl refl $ frees-cell ! 12 refl refl $ frees-cell ! 10 refl refl $ frees-cell ! 8 refl refl $
           frees-cell ! 6 refl refl $ free0 ! $
           move ! (0 ∷ 3 ∷ 1 ∷ 2 ∷ 4 ∷ 5 ∷ []) $
-          by ! (exits k w₁ za zn is-k same-length same-nodes
+          by ! (exits 𝓤 H A W R S makes q k w₁ za zn is-k same-length same-nodes
           (follows (im .now) li bu (ar .now) (no .now) r k za zn seen said))))))))))))))))))
-
-  walks : (C : Calls 𝓤 H) (Λ : Loops 𝓤 H) → FmC 𝓤 H (W .laws) C
-      → Triple 𝓤 (C query-symbol.name) (Query 𝓤 H A) → Triple 𝓤 (C f) (Looks 𝓤 H A R of)
-      → Walks 𝓤 H A (asking R) stayed (WpFn 𝓤 H C Λ (asks τ f)) (ensuring 𝓤 H A R S)
-  walks C Λ fm known-query known =
-      walked 𝓤 H A (asking R) stayed (ensuring 𝓤 H A R S) (WpFn 𝓤 H C Λ (asks τ f))
-      (λ κs. (slice-vals, (uint-vals w32, (uint-vals w32, (slice-vals, (slice-vals, tt))))))
-      (λ κs. (
-        shr-slice-tells (named 0) (κs .0) u8,
-        (
-          uint-tells w32,
-          (
-            uint-tells w32,
-            (mut-slice-tells (named 1) (κs .1 .0) u32, (mut-slice-tells (named 2) (κs .1 .1 .0) node.the-row, tt)),
-          ),
-        ),
-      ))
-      (λ κs qs bounds a g are. via 𝓤 _ (fst∗ 𝓤 _ (emp 𝓤)) (
-      walk (κs .0) (κs .1 .0) (κs .1 .1 .0) (qs .0) (qs .1 .0) (qs .1 .1 .0)
-      (a .0) (a .1 .0) (a .1 .1 .0) (a .1 .1 .1 .0) (a .1 .1 .1 .1 .0) (are .1 .0 .1) (are .1 .1 .0 .1)
-      C Λ fm known-query known (are .0) (are .1 .1 .1 .0 .0 .1) (are .1 .1 .1 .1 .0 .0 .1)))
 
   pub asks-meets : (𝓣 : Tables 𝓤 H) → Triple 𝓤 (𝓣 .C query-symbol.name) (Query 𝓤 H A)
       → Triple 𝓤 (𝓣 .C f) (Looks 𝓤 H A R of)
-      → Meets 𝓤 H A (asking R .signature) (WpFn 𝓤 H (𝓣 .C) (𝓣 .Λ) (asks τ f)) (closing 𝓤 H A (asking R) (ensuring 𝓤 H A R S))
+      → Meets 𝓤 H A (asking R .signature) (WpFn 𝓤 H (𝓣 .C) (𝓣 .Λ) (asks τ f))
+      (closing 𝓤 H A (asking R) (ensuring 𝓤 H A R S))
   asks-meets 𝓣 known-query known =
-      let number = goes-none 𝓤 H A W 3 (λ _. u32) yes (λ κs x f. refl) in
-      walk-meets 𝓤 H A (asking R) stayed W (
-        goes-none-slice 𝓤 H A W 3 (0 ∷ []) tt (plain (λ _. u8)) yes,
-        (
-          number,
-          (
-            number,
-            (goes-gave-slice 𝓤 H A W 3 1 tt (plain (λ _. u32)), (goes-gave-slice 𝓤 H A W 3 2 tt (plain (λ _. node.the-row)), tt)),
-          ),
-        ),
-      )
-      (ensuring 𝓤 H A R S) (WpFn 𝓤 H (𝓣 .C) (𝓣 .Λ) (asks τ f)) (WpFn-mono 𝓤 H (W .laws) 𝓣 (asks τ f))
-      (walks (𝓣 .C) (𝓣 .Λ) (fmOf 𝓤 H (W .laws) 𝓣) known-query known)
+      walk-asks 𝓤 H A W R S 𝓣 (asks τ f) (λ κi κa κn qi qa qn im li bu ar ns li-fits bu-fits.
+      walk κi κa κn qi qa qn im li bu ar ns li-fits bu-fits (𝓣 .C) (𝓣 .Λ) (fmOf 𝓤 H (W .laws) 𝓣) known-query known)
