@@ -6,3 +6,4 @@ pub mod Fittings
 pub mod Listings
 pub mod Queries
 pub mod Rows
+pub mod Asking

@@ -18,7 +18,7 @@ use ghost.Atoms.{Atoms, sem}
 use contract.Monad.{Fun, fact}
 use contract.Running.{givenOf, tables, tablesOf}
 use types.Kit.{Given, Item, ‵, raw, some, later, ⋆, _⊛_, _$_, _∵_, !, qed, by, move, group, drop, use0, use1, split, join}
-use types.Kit.{pick, fsplit, fjoin, feqL, suffices, frame, await, done}
+use types.Kit.{Goal, Soaks, Seq, pick, fsplit, fjoin, feqL, suffices, frame, await, done}
 use types.Run.{look, init, stop, hop, fld, from, load, addr, and-then, no-more, land, returns, enter, alloc1, alloc0}
 use types.Run.{params1, pass1, pass0, free0}
 use types.Part.{agg, whole, sub, look-in}
@@ -27,8 +27,7 @@ use denote.RattleType.{owns}
 use denote.Laws.{Is, shows}
 use denote.Plain.{Boolean, uint-makes, uint-vals, uint-tells, bool-makes, bool-vals, bool-tells, bool-lawful}
 use denote.Builtin.{u8, u32}
-use denote.Ref.{RefT}
-use denote.Slice.{sliceVal, MutSlice, ShrSlice, Room, finally, slice-vals, mut-slice-tells, shr-slice-tells}
+use denote.Slice.{MutSlice, ShrSlice, Room, finally, slice-vals, mut-slice-tells, shr-slice-tells}
 use denote.Slice.{shr-slice-copy, shr-slice-lawful}
 use denote.Steps.{owned, peeks, heard, nothing}
 use denote.Triple.Entry.{onEntry}
@@ -44,6 +43,7 @@ use denote.Signature.{plain}
 use Rattle.lists.proofs.Locals.{var, gets, sliced, frees-cell}
 use Rattle.warrant.specs.declared.Node.{Node}
 use Rattle.warrant.specs.Calls.{Call, literalAsked}
+use Rattle.warrant.proofs.Asking.{Words, Nodes, v}
 use Rattle.warrant.proofs.Node as node
 use Rattle.exclusion.specs.Exclusion.{callOf, saysYes, TwoCalls}
 use Rattle.exclusion.proofs.Exclusion.{literal-asked, two-calls}
@@ -88,12 +88,6 @@ stayed = (
   ),
 )
 
-abbrev Words : Type 0
-Words = RefT (List ℕ)
-
-abbrev Nodes : Type 0
-Nodes = RefT (List Node)
-
 -- what one of the two calls is given besides the image
 record One : Type 0 where
   κa : Lft
@@ -126,9 +120,6 @@ module _ {M : Type 1} (𝓤 : URA M) (H : Heap 𝓤) (A : Atoms 𝓤) (mem : Mem
 
 module _ {M : Type 1} (𝓤 : URA M) (H : Heap 𝓤) (A : Atoms 𝓤) (W : Given 𝓤 H A) (mm : Memory → SProp 𝓤)
     (run : Routine → Fun 𝓤) (κi : Lft) (qi : Share) (im : Words) (x y : One) where
-  abbrev v : {X : Type 0} → RefT (List X) → Val
-  v w = sliceVal (w .ptr) (length (w .now))
-
   abbrev Given-one : Type 0
   Given-one = Bool × (ℕ × (ℕ × (Words × (Nodes × Unit {0}))))
 
@@ -220,6 +211,25 @@ module _ {M : Type 1} (𝓤 : URA M) (H : Heap 𝓤) (A : Atoms 𝓤) (W : Given
       ((‵ (flft κi qi) ⊛ ‵ (flft (o .κa) (o .qa)) ⊛ ‵ (flft (o .κn) (o .qn)) ⊛ ‵ ftrue) ⊛ ‵ (Boolean .own k (w ∷ [])))
       ⊛ some (λ (zs : Lasts says-yes.ended (κi, (o .κa, (o .κn, tt))) (asked o)).
       ‵ (lasts says-yes.ended (κi, (o .κa, (o .κn, tt))) (asked o) zs) ⊛ raw (fact 𝓤 (One-says o k)))))
+
+  -- one call has returned: back come the tokens and the last lists of its two tables
+  says-returns : {K : Type 0} {Γ : List (Item 𝓤)} {G : Goal 𝓤 H} → K → Soaks G → (o : One) (w : Val)
+      → ((k : Bool) (za : List ℕ) (zn : List Node) → Is Boolean k (w ∷ []) → length za ≡ length (o .ar .now)
+      → length zn ≡ length (o .no .now) → One-says o k
+      → Seq K W (‵ (flft (o .κn) (o .qn)) ∷ ‵ (flft (o .κa) (o .qa)) ∷ ‵ (flft κi qi)
+      ∷ ‵ (finally node.the-row (o .no .name) zn) ∷ ‵ (finally u32 (o .ar .name) za) ∷ Γ) G)
+      → Seq K W (raw (Says 𝓤 H A mm run .post (to-says o) w) ∷ Γ) G
+  says-returns t z o w go-on =
+      use1 W (says-back o w) (id⊢ 𝓤 _) $ await t z $ pick t (λ k. split t $ move t (1 ∷ []) $ pick t (λ zs.
+      split t $ move t (1 ∷ []) $ heard t (One-says o k) (λ said.
+      fsplit t $ drop t $ fsplit t $ drop t $ fsplit t $ drop t $ fsplit t $ drop t $
+      fsplit t $ fsplit t $ move t (1 ∷ []) $ feqL t (λ same-length.
+      move t (1 ∷ []) $ fsplit t $ fsplit t $ move t (1 ∷ []) $ feqL t (λ same-nodes.
+      move t (1 ∷ []) $ drop t $
+      move t (2 ∷ []) $ split t $ split t $ move t (1 ∷ []) $ split t $ move t (1 ∷ []) $ split t $
+      move t (1 ∷ []) $ drop t $
+      move t (3 ∷ []) $ peeks t Boolean (Is Boolean) (shows 𝓤 H A Boolean) k (w ∷ []) (λ is.
+      drop t $ go-on k (zs .1 .1 .1 .1 .0) (zs .1 .1 .1 .1 .1 .0) is same-length same-nodes said))))))
 
   abbrev to-both : Bool → Bool → Val → Val → Both 𝓤 H A mm run .Ghost
   to-both a b w u = ((tt, tt, tt, (a, (b, tt)), (w ∷ [], (u ∷ [], tt))), tt)
@@ -326,18 +336,8 @@ module _ {M : Type 1} (𝓤 : URA M) (H : Heap 𝓤) (A : Atoms 𝓤) (W : Given
         calls-at ! fm (Says 𝓤 H A mm run) known-says (to-says x)
         (and-then ! (var ! 45 refl) (and-then ! (var ! 47 refl) (and-then ! (var ! 43 refl)
         (and-then ! (var ! 41 refl) (and-then ! (var ! 19 refl) (and-then ! (var ! 15 refl) (no-more !))))))) (λ w₁.
-        use1 W (says-back x w₁) (id⊢ 𝓤 _) $ await ! tt $ pick ! (λ k₁. split ! $ move ! (1 ∷ []) $ pick ! (λ zs₁.
-        let za₁ = zs₁ .1 .1 .1 .1 .0 in
-        let zn₁ = zs₁ .1 .1 .1 .1 .1 .0 in
-        split ! $ move ! (1 ∷ []) $ heard ! (One-says x k₁) (λ said₁.
-        fsplit ! $ drop ! $ fsplit ! $ drop ! $ fsplit ! $ drop ! $ fsplit ! $ drop ! $
-        fsplit ! $ fsplit ! $ move ! (1 ∷ []) $ feqL ! (λ same-length₁.
-        move ! (1 ∷ []) $ fsplit ! $ fsplit ! $ move ! (1 ∷ []) $ feqL ! (λ same-nodes₁.
-        move ! (1 ∷ []) $ drop ! $
-        move ! (2 ∷ []) $ split ! $ split ! $ move ! (1 ∷ []) $ split ! $ move ! (1 ∷ []) $ split ! $
-        move ! (1 ∷ []) $ drop ! $
-        move ! (3 ∷ []) $ peeks ! Boolean (Is Boolean) (shows 𝓤 H A Boolean) k₁ (w₁ ∷ []) (λ is₁.
-        land ! (from ! (stop !)) (init ! 30 refl (bool-lawful 𝓤 H A W .typed k₁ _ is₁ .0)) $ drop ! $
+        says-returns ! tt x w₁ (λ k₁ za₁ zn₁ is₁ same-length₁ same-nodes₁ said₁.
+        land ! (from ! (stop !)) (init ! 29 refl (bool-lawful 𝓤 H A W .typed k₁ _ is₁ .0)) $
         -- the other two tables as slices
         gets ! (addr ! (from ! (fld ! refl (hop ! (look-in ! 33 (sub ! 0 refl (whole !))) (stop !)))))
         17 refl (tt, tt) $
@@ -353,18 +353,8 @@ module _ {M : Type 1} (𝓤 : URA M) (H : Heap 𝓤) (A : Atoms 𝓤) (W : Given
         calls-at ! fm (Says 𝓤 H A mm run) known-says (to-says y)
         (and-then ! (var ! 34 refl) (and-then ! (var ! 46 refl) (and-then ! (var ! 32 refl)
         (and-then ! (var ! 30 refl) (and-then ! (var ! 10 refl) (and-then ! (var ! 6 refl) (no-more !))))))) (λ w₂.
-        use1 W (says-back y w₂) (id⊢ 𝓤 _) $ await ! tt $ pick ! (λ k₂. split ! $ move ! (1 ∷ []) $ pick ! (λ zs₂.
-        let za₂ = zs₂ .1 .1 .1 .1 .0 in
-        let zn₂ = zs₂ .1 .1 .1 .1 .1 .0 in
-        split ! $ move ! (1 ∷ []) $ heard ! (One-says y k₂) (λ said₂.
-        fsplit ! $ drop ! $ fsplit ! $ drop ! $ fsplit ! $ drop ! $ fsplit ! $ drop ! $
-        fsplit ! $ fsplit ! $ move ! (1 ∷ []) $ feqL ! (λ same-length₂.
-        move ! (1 ∷ []) $ fsplit ! $ fsplit ! $ move ! (1 ∷ []) $ feqL ! (λ same-nodes₂.
-        move ! (1 ∷ []) $ drop ! $
-        move ! (2 ∷ []) $ split ! $ split ! $ move ! (1 ∷ []) $ split ! $ move ! (1 ∷ []) $ split ! $
-        move ! (1 ∷ []) $ drop ! $
-        move ! (3 ∷ []) $ peeks ! Boolean (Is Boolean) (shows 𝓤 H A Boolean) k₂ (w₂ ∷ []) (λ is₂.
-        land ! (from ! (stop !)) (init ! 27 refl (bool-lawful 𝓤 H A W .typed k₂ _ is₂ .0)) $ drop ! $
+        says-returns ! tt y w₂ (λ k₂ za₂ zn₂ is₂ same-length₂ same-nodes₂ said₂.
+        land ! (from ! (stop !)) (init ! 26 refl (bool-lawful 𝓤 H A W .typed k₂ _ is₂ .0)) $
         -- `both`
         use0 W (raw (Both 𝓤 H A mm run .pre (to-both k₁ k₂ w₁ w₂))) (goes-both k₁ k₂ w₁ w₂ is₁ is₂) $
         calls-at ! fm (Both 𝓤 H A mm run) known-both (to-both k₁ k₂ w₁ w₂)
@@ -386,7 +376,7 @@ module _ {M : Type 1} (𝓤 : URA M) (H : Heap 𝓤) (A : Atoms 𝓤) (W : Given
         frees-cell ! 10 refl refl $ free0 ! $
         move ! (0 ∷ 3 ∷ 1 ∷ 4 ∷ 5 ∷ 7 ∷ 6 ∷ 8 ∷ 2 ∷ 9 ∷ []) $
         by ! (exits r w za₁ zn₁ za₂ zn₂ is same-length₁ same-nodes₁ same-length₂ same-nodes₂ (two-calls (im .now)
-        (x .li) (y .li) (call-of x) (call-of y) (asks x) (asks y) k₁ k₂ r said₁ said₂ met))))))))))))))))))))))))))))))))))))))))))
+        (x .li) (y .li) (call-of x) (call-of y) (asks x) (asks y) k₁ k₂ r said₁ said₂ met))))))))))))))))))))))))))))))))
 
 module _ {M : Type 1} (𝓤 : URA M) (H : Heap 𝓤) (A : Atoms 𝓤) (W : Given 𝓤 H A) (mm : Memory → SProp 𝓤)
     (run : Routine → Fun 𝓤) where

@@ -17,8 +17,8 @@ use prog.Wp.{Heap, Calls, Loops, WpFn, Tables}
 use ghost.Atoms.{Atoms, sem}
 use contract.Monad.{Fun, fact}
 use contract.Running.{givenOf, tables, tablesOf}
-use types.Kit.{Given, Item, ‵, raw, some, later, ⋆, _⊛_, _$_, _∵_, !, qed, by, move, group, drop, use0, use1, split, join}
-use types.Kit.{pick, fsplit, fjoin, feqL, suffices, frame, await, done}
+use types.Kit.{Given, Item, ‵, raw, some, later, ⋆, _⊛_, _$_, _∵_, !, qed, by, move, group, drop, use0, use1, split}
+use types.Kit.{pick, fsplit, fjoin, suffices, frame, await, done}
 use types.Tokens.{lft-new, lft-end}
 use types.Run.{look, init, stop, from, lit, and-then, no-more, land, returns, enter, alloc1, alloc0, params1, pass1, pass0}
 use types.Run.{free1, free0}
@@ -28,8 +28,7 @@ use denote.RattleType.{owns}
 use denote.Laws.{Is, shows}
 use denote.Plain.{uint-makes, uint-vals, uint-tells, uint-lawful}
 use denote.Builtin.{u8, u32}
-use denote.Ref.{RefT}
-use denote.Slice.{sliceVal, MutSlice, ShrSlice, Room, slice-vals, shr-slice-tells, shr-slice-copy, shr-slice-lawful}
+use denote.Slice.{sliceVal, ShrSlice, Room, slice-vals, shr-slice-tells, shr-slice-copy, shr-slice-lawful}
 use denote.Steps.{owned, peeks, heard, nothing}
 use denote.Enum.Laws as enums
 use denote.Struct.Laws as structs
@@ -37,7 +36,7 @@ use denote.Triple.Entry.{onEntry}
 use denote.Triple.Spec.{Meets, tripleOf}
 use denote.Triple.Statement.{Contract, Triple}
 use denote.Triple.Call.{calls-at}
-use denote.Triple.Clauses.{Lasts, ensured, lasts}
+use denote.Triple.Clauses.{ensured, lasts}
 use denote.Triple.Table.{entered, cited}
 use denote.Triple.Walked.{says, Stays, stay-none, stay-none-slice, walkOf, goes-none, goes-none-slice, Walks, ends-at}
 use denote.Triple.Walked.{walked, walk-meets}
@@ -49,11 +48,11 @@ use Rattle.answer.specs.declared.Answer.{Answer}
 use Rattle.answer.proofs.Answer as answer
 use Rattle.answer.proofs.Answer.Laws as answer-laws
 use Rattle.warrant.specs.declared.Node.{Node}
-use Rattle.warrant.specs.Calls.{queried, queryArguments, queryNodes, packed, hostCall}
+use Rattle.warrant.specs.Calls.{queried, packed, hostCall}
+use Rattle.warrant.proofs.Asking.{Words, Asked, v, Query-says, Query, calls-query}
 use Rattle.warrant.proofs.Calls.{query-packs}
 use Rattle.warrant.proofs.Node as node
 use Rattle.warrant.proofs.Node.Laws as node-laws
-use Rattle.warrant.proofs.query as query
 use Rattle.warrant.proofs.query.Symbol as query-symbol
 use Rattle.warrant.proofs.query.Met as query-met
 use Rattle.host.proofs.pack as pack
@@ -69,12 +68,6 @@ stayed = (
   stay-none-slice (0 ∷ []) tt (plain (λ _. u8)) yes,
   (stay-none (λ _. u32) yes, (stay-none (λ _. u32) yes, tt)),
 )
-
-abbrev Words : Type 0
-Words = RefT (List ℕ)
-
-abbrev Nodes : Type 0
-Nodes = RefT (List Node)
 
 room32 : Room u32 4096
 room32 = (lit< tt, lit< tt)
@@ -95,31 +88,24 @@ is-zero =
     ((refl, lit< tt), ((refl, lit< tt), ((refl, lit< tt), ((refl, lit< tt), tt))))
 
 module _ {M : Type 1} (𝓤 : URA M) (H : Heap 𝓤) (A : Atoms 𝓤) (mem : Memory → SProp 𝓤) (run : Routine → Fun 𝓤) where
-  -- the contracts that the proof cites
-  abbrev Query : Contract 𝓤
-  Query = tripleOf 𝓤 H A query.signature (query.spec 𝓤 H A mem run)
-
   abbrev Pack : Contract 𝓤
   Pack = tripleOf 𝓤 H A pack.signature (pack.spec 𝓤 H A mem run)
 
 module _ {M : Type 1} (𝓤 : URA M) (H : Heap 𝓤) (A : Atoms 𝓤) (W : Given 𝓤 H A) (mm : Memory → SProp 𝓤)
     (run : Routine → Fun 𝓤) (κi : Lft) (qi : Share) (im : Words) (li bu : ℕ) (li-fits : li < 2 ^ 32) (bu-fits : bu < 2 ^ 32)
   where
-    abbrev v : Val
-    v = sliceVal (im .ptr) (length (im .now))
-
     abbrev args : Words × (ℕ × (ℕ × Unit {0}))
     args = (im, (li, (bu, tt)))
 
     abbrev vals : List Val × (List Val × (List Val × Unit {0}))
-    vals = (v ∷ [], (vint w32 li ∷ [], (vint w32 bu ∷ [], tt)))
+    vals = (v im ∷ [], (vint w32 li ∷ [], (vint w32 bu ∷ [], tt)))
 
     abbrev Post : Val → SProp 𝓤
     Post =
         walkOf 𝓤 H A host.ended stayed (host.clauses 𝓤 H A mm run) .post (((κi, tt), (qi, tt), tt, args, vals), tt)
 
     abbrev OI : Fml
-    OI = ShrSlice (named 0) κi u8 .own im (v ∷ [])
+    OI = ShrSlice (named 0) κi u8 .own im (v im ∷ [])
 
     abbrev vt : ℕ → Val
     vt b = sliceVal (b, 0) 4096
@@ -134,18 +120,10 @@ module _ {M : Type 1} (𝓤 : URA M) (H : Heap 𝓤) (A : Atoms 𝓤) (W : Given
     typed-zero : T (hasTy node-laws.mir zero-val) × WT zero-val
     typed-zero = structs.lawful node.the-type node-laws.the-laws 𝓤 H A W .typed zero (zero-val ∷ []) is-zero .0
 
-    typed : (r : Answer) (w : Val) → Is answer.the-row r (w ∷ []) → T (hasTy answer-laws.mir w) × WT w
-    typed r w is = enums.lawful answer.the-type answer-laws.the-laws 𝓤 H A W tt .typed r (w ∷ []) is .0
-
     -- ---- what the callees say, and what follows
 
-    abbrev Query-says : List ℕ → List Node → Answer → List ℕ → List Node → Type 0
-    Query-says xs ns r za zn =
-        (r ≡ queried (im .now) li bu (length xs) (length ns)) × (za ≡ queryArguments (im .now) li bu xs (length ns))
-        × (zn ≡ queryNodes (im .now) li bu (length xs) ns)
-
     is-answer : (xs : List ℕ) (ns : List Node) (r : Answer) (za : List ℕ) (zn : List Node) → length xs ≡ 4096
-        → length ns ≡ 4096 → Query-says xs ns r za zn → r ≡ queried (im .now) li bu 4096 4096
+        → length ns ≡ 4096 → Query-says (im .now) li bu xs ns r za zn → r ≡ queried (im .now) li bu 4096 4096
     is-answer xs ns r za zn len len-n said =
         said .0 ∙ ap (λ n. queried (im .now) li bu n (length ns)) len ∙ ap (λ n. queried (im .now) li bu 4096 n) len-n
 
@@ -154,44 +132,25 @@ module _ {M : Type 1} (𝓤 : URA M) (H : Heap 𝓤) (A : Atoms 𝓤) (W : Given
 
     -- ---- the calls
 
-    module _ (b₁ b₂ α β : ℕ) (γ₁ γ₂ : GName) (xs : List ℕ) (ns : List Node) where
-      abbrev arg-query : Words × (ℕ × (ℕ × (Words × (Nodes × Unit {0}))))
-      arg-query = (im, (li, (bu, (tableAt b₁ γ₁ xs, (tableAt b₂ γ₂ ns, tt)))))
-
-      abbrev to-query : Query 𝓤 H A mm run .Ghost
-      to-query = (
-        (
-          (κi, (α ∷ [], (β ∷ [], tt))),
-          (qi, (fullShare, (fullShare, tt))),
-          tt,
-          arg-query,
-          (v ∷ [], (vint w32 li ∷ [], (vint w32 bu ∷ [], (vt b₁ ∷ [], (vt b₂ ∷ [], tt))))),
-        ),
-        tt,
-      )
-
-      abbrev Passed : List (Item 𝓤)
-      Passed =
-          ‵ (flft κi qi) ∷ ‵ (flft (α ∷ []) fullShare) ∷ ‵ (flft (β ∷ []) fullShare) ∷ ‵ OI
-          ∷ ‵ (MutSlice (named 1) (α ∷ []) u32 .own (tableAt b₁ γ₁ xs) (vt b₁ ∷ []))
-          ∷ ‵ (MutSlice (named 2) (β ∷ []) node.the-row .own (tableAt b₂ γ₂ ns) (vt b₂ ∷ [])) ∷ []
-
-      goes-query : ent 𝓤 (⋆ 𝓤 H A Passed) (Query 𝓤 H A mm run .pre to-query)
-      goes-query =
-          qed W Passed ∵ nothing ! $ owned ! u32 (Is u32) (uint-makes 𝓤 H A W w32) bu _ (refl, bu-fits) $
-          owned ! u32 (Is u32) (uint-makes 𝓤 H A W w32) li _ (refl, li-fits) $
-          move ! (6 ∷ 0 ∷ 1 ∷ 7 ∷ 8 ∷ 2 ∷ []) $ group ! 6 $ nothing ! $ move ! (2 ∷ 3 ∷ 4 ∷ 0 ∷ []) $ group ! 4 $ join ! $
-          frame ! $ done !
-
-      abbrev Left : Type 0
-      Left = Lasts query.ended (κi, (α ∷ [], (β ∷ [], tt))) arg-query
-
-      abbrev query-back : Val → Item 𝓤
-      query-back w = later (some (λ (r : Answer).
-          ((‵ (flft κi qi) ⊛ ‵ (flft (α ∷ []) fullShare) ⊛ ‵ (flft (β ∷ []) fullShare) ⊛ ‵ ftrue)
-          ⊛ ‵ (answer.the-row .own r (w ∷ [])))
-          ⊛ some (λ (zs : Left). ‵ (lasts query.ended (κi, (α ∷ [], (β ∷ [], tt))) arg-query zs)
-          ⊛ raw (fact 𝓤 (Query-says xs ns r (zs .1 .1 .1 .0) (zs .1 .1 .1 .1 .0))))))
+    -- the two tables at b₁ and b₂, lent for α and β
+    abbrev asked : (b₁ b₂ α β : ℕ) → GName → GName → List ℕ → List Node → Asked
+    asked b₁ b₂ α β γ₁ γ₂ xs ns = record {
+      κi = κi;
+      κa = α ∷ [];
+      κn = β ∷ [];
+      qi = qi;
+      qa = fullShare;
+      qn = fullShare;
+      im = im;
+      li = li;
+      bu = bu;
+      ar = tableAt b₁ γ₁ xs;
+      no = tableAt b₂ γ₂ ns;
+      va = vt b₁;
+      vn = vt b₂;
+      li-fits = li-fits;
+      bu-fits = bu-fits;
+    }
 
     abbrev to-pack : Answer → Val → Pack 𝓤 H A mm run .Ghost
     to-pack r w = ((tt, tt, tt, (r, tt), (w ∷ [], tt)), tt)
@@ -228,18 +187,18 @@ module _ {M : Type 1} (𝓤 : URA M) (H : Heap 𝓤) (A : Atoms 𝓤) (W : Given
     -- ---- the walk
 
     module _ (C : Calls 𝓤 H) (Λ : Loops 𝓤 H) (fm : FmC 𝓤 H (W .laws) C)
-        (known-query : Triple 𝓤 (C query-symbol.name) (Query 𝓤 H A mm run))
+        (known-query : Triple 𝓤 (C query-symbol.name) (Query 𝓤 H A))
         (known-pack : Triple 𝓤 (C pack-symbol.name) (Pack 𝓤 H A mm run)) where
-      walk : Is (ShrSlice (named 0) κi u8) im (v ∷ [])
+      walk : Is (ShrSlice (named 0) κi u8) im (v im ∷ [])
           → ent 𝓤 (onEntry 𝓤 H A host.signature (κi, tt) (qi, tt) args vals)
-          (WpFn 𝓤 H C Λ code.function (v ∷ vint w32 li ∷ vint w32 bu ∷ []) Post)
+          (WpFn 𝓤 H C Λ code.function (v im ∷ vint w32 li ∷ vint w32 bu ∷ []) Post)
       walk is-im =
           qed W ((‵ (flft κi qi) ⊛ ‵ ftrue) ∷ ‵ (owns (ShrSlice (named 0) κi u8 ∷ u32 ∷ u32 ∷ []) args vals) ∷ []) ∵
-          enter ! C Λ code.function (v ∷ vint w32 li ∷ vint w32 bu ∷ []) _ $
+          enter ! C Λ code.function (v im ∷ vint w32 li ∷ vint w32 bu ∷ []) _ $
           alloc1 ! (λ l₀. alloc1 ! (λ l₁. alloc1 ! (λ l₂. alloc1 ! (λ l₃. alloc1 ! (λ l₄. alloc1 ! (λ l₅.
           alloc1 ! (λ l₆. alloc1 ! (λ l₇. alloc1 ! (λ l₈. alloc1 ! (λ l₉. alloc1 ! (λ l₁₀. alloc1 ! (λ l₁₁.
           alloc0 ! $ params1 ! $
-          pass1 ! (init ! 20 refl (shr-slice-lawful 𝓤 H A W (named 0) κi u8 .typed im (v ∷ []) is-im .0)) $
+          pass1 ! (init ! 20 refl (shr-slice-lawful 𝓤 H A W (named 0) κi u8 .typed im (v im ∷ []) is-im .0)) $
           pass1 ! (init ! 18 refl (tt, record { fits = li-fits })) $
           pass1 ! (init ! 16 refl (tt, record { fits = bu-fits })) $ pass0 ! $
           -- the two tables are made, zeroed, and what they hold is hidden
@@ -254,30 +213,18 @@ module _ {M : Type 1} (𝓤 : URA M) (H : Heap 𝓤) (A : Atoms 𝓤) (W : Given
           slices ! 4 2 (lit< tt) refl refl refl (tt, tt) (sliced (lit< tt)) $
           -- the image's ghosts
           move ! (25 ∷ []) $ fsplit ! $ move ! (1 ∷ []) $ drop ! $
-          use1 W (‵ OI ⊛ ‵ OI) (shr-slice-copy 𝓤 H A W (named 0) κi u8 .twice im (v ∷ [])) $ split ! $
+          use1 W (‵ OI ⊛ ‵ OI) (shr-slice-copy 𝓤 H A W (named 0) κi u8 .twice im (v im ∷ [])) $ split ! $
           move ! (26 ∷ []) $ split ! $ move ! (1 ∷ []) $ drop ! $
           -- each table is lent for a lifetime of its own
           lft-new ! tt (λ α. lft-new ! tt (λ β.
           move ! (6 ∷ []) $ lends-mut u32 4096 ! tt (named 1) (α ∷ []) xs l₄ len room32 (λ γ₁.
           move ! (7 ∷ []) $ lends-mut node.the-row 4096 ! tt (named 2) (β ∷ []) ns l₅ len-n room-node (λ γ₂.
           -- `query`
-          move ! (6 ∷ 5 ∷ 4 ∷ 7 ∷ 2 ∷ 0 ∷ []) $ group ! 6 $
-          use1 W (raw (Query 𝓤 H A mm run .pre (to-query l₄ l₅ α β γ₁ γ₂ xs ns))) (goes-query l₄ l₅ α β γ₁ γ₂ xs ns) $
-          calls-at ! fm (Query 𝓤 H A mm run) known-query (to-query l₄ l₅ α β γ₁ γ₂ xs ns)
+          move ! (6 ∷ 5 ∷ 4 ∷ 7 ∷ 2 ∷ 0 ∷ []) $ calls-query ! fm known-query (asked l₄ l₅ α β γ₁ γ₂ xs ns)
           (and-then ! (var ! 22 refl) (and-then ! (var ! 20 refl)
-          (and-then ! (var ! 18 refl) (and-then ! (var ! 8 refl) (and-then ! (var ! 4 refl) (no-more !)))))) (λ w.
-          use1 W (query-back l₄ l₅ α β γ₁ γ₂ xs ns w) (id⊢ 𝓤 _) $ await ! tt $ pick ! (λ r.
-          split ! $ move ! (1 ∷ []) $ pick ! (λ zs.
-          let za = zs .1 .1 .1 .0 in
-          let zn = zs .1 .1 .1 .1 .0 in
-          split ! $ move ! (1 ∷ []) $ heard ! (Query-says xs ns r za zn) (λ said.
-          fsplit ! $ drop ! $ fsplit ! $ drop ! $ fsplit ! $ drop ! $
-          fsplit ! $ fsplit ! $ move ! (1 ∷ []) $ feqL ! (λ _.
-          move ! (1 ∷ []) $ fsplit ! $ fsplit ! $ move ! (1 ∷ []) $ feqL ! (λ _.
-          move ! (1 ∷ []) $ drop ! $ move ! (2 ∷ []) $ split ! $ split ! $ move ! (1 ∷ []) $ split ! $ move ! (1 ∷ []) $
-          split ! $ move ! (1 ∷ []) $ drop ! $
-          move ! (3 ∷ []) $ peeks ! answer.the-row (Is answer.the-row) (shows 𝓤 H A answer.the-row) r (w ∷ []) (λ is.
-          land ! (from ! (stop !)) (init ! 17 refl (typed r w is)) $ drop ! $
+          (and-then ! (var ! 18 refl) (and-then ! (var ! 8 refl) (and-then ! (var ! 4 refl) (no-more !))))))
+          (λ w r za zn is is-typed _ _ said.
+          land ! (from ! (stop !)) (init ! 16 refl is-typed) $
           -- the tables come back, and are room again
           lft-end ! tt $ move ! (0 ∷ 5 ∷ 3 ∷ []) $ comes-back node.the-row 4096 ! tt zn l₅ (λ back-n.
           frees-array node.the-row 4096 ! zn l₅ back-n $ move ! (1 ∷ []) $ drop ! $
@@ -298,12 +245,12 @@ module _ {M : Type 1} (𝓤 : URA M) (H : Heap 𝓤) (A : Atoms 𝓤) (W : Given
           frees-cell ! 18 refl refl $ move ! (0 ∷ 17 ∷ []) $ free1 ! $ move ! (0 ∷ 15 ∷ []) $ free1 ! $
           frees-cell ! 12 refl refl $ frees-cell ! 10 refl refl $ frees-cell ! 8 refl refl $ frees-cell ! 6 refl refl $
           frees-cell ! 4 refl refl $ frees-cell ! 2 refl refl $ free0 ! $
-          by ! (exits k w₁ is-k (packs-to ∙ ap packed same)))))))))))))))))))))))))))))))))
+          by ! (exits k w₁ is-k (packs-to ∙ ap packed same)))))))))))))))))))))))))))
 
 module _ {M : Type 1} (𝓤 : URA M) (H : Heap 𝓤) (A : Atoms 𝓤) (W : Given 𝓤 H A) (mm : Memory → SProp 𝓤)
     (run : Routine → Fun 𝓤) where
   host-walks : (C : Calls 𝓤 H) (Λ : Loops 𝓤 H) → FmC 𝓤 H (W .laws) C
-      → Triple 𝓤 (C query-symbol.name) (Query 𝓤 H A mm run) → Triple 𝓤 (C pack-symbol.name) (Pack 𝓤 H A mm run)
+      → Triple 𝓤 (C query-symbol.name) (Query 𝓤 H A) → Triple 𝓤 (C pack-symbol.name) (Pack 𝓤 H A mm run)
       → Walks 𝓤 H A host.ended stayed (WpFn 𝓤 H C Λ code.function) (host.clauses 𝓤 H A mm run)
   host-walks C Λ fm known-query known-pack =
       walked 𝓤 H A host.ended stayed (host.clauses 𝓤 H A mm run) (WpFn 𝓤 H C Λ code.function)
@@ -313,7 +260,7 @@ module _ {M : Type 1} (𝓤 : URA M) (H : Heap 𝓤) (A : Atoms 𝓤) (W : Given
       walk 𝓤 H A W mm run (κs .0) (qs .0) (a .0) (a .1 .0) (a .1 .1 .0) (are .1 .0 .1) (are .1 .1 .0 .1)
       C Λ fm known-query known-pack (are .0)))
 
-  host-meets : (𝓣 : Tables 𝓤 H) → Triple 𝓤 (𝓣 .C query-symbol.name) (Query 𝓤 H A mm run)
+  host-meets : (𝓣 : Tables 𝓤 H) → Triple 𝓤 (𝓣 .C query-symbol.name) (Query 𝓤 H A)
       → Triple 𝓤 (𝓣 .C pack-symbol.name) (Pack 𝓤 H A mm run)
       → Meets 𝓤 H A host.signature (WpFn 𝓤 H (𝓣 .C) (𝓣 .Λ) code.function) (host.spec 𝓤 H A mm run)
   host-meets 𝓣 known-query known-pack =
@@ -331,7 +278,7 @@ foqtirel-query-spec 𝓤 H 𝓜 𝓖 𝓡 =
     entered 𝓤 H (tripleOf 𝓤 H (𝓖 .A) host.signature (host.spec 𝓤 H (𝓖 .A) mem run))
     (tables 𝓤 H 𝓜 𝓡 code.env .C) (tables 𝓤 H 𝓜 𝓡 code.env .Λ) #foqtirel-query code.function (code.unfolded 𝓤 H 𝓜 𝓡)
     (host-meets 𝓤 H (𝓖 .A) (givenOf 𝓤 H 𝓜 𝓖) mem run (tablesOf 𝓤 H 𝓜 (tables 𝓤 H 𝓜 𝓡 code.env))
-    (cited 𝓤 H (Query 𝓤 H (𝓖 .A) mem run) 𝓜 𝓡 code.env query-symbol.name query-symbol.routine
+    (cited 𝓤 H (Query 𝓤 H (𝓖 .A)) 𝓜 𝓡 code.env query-symbol.name query-symbol.routine
     code.calls-warrant·query (query-met.met 𝓤 H 𝓜 𝓖 𝓡))
     (cited 𝓤 H (Pack 𝓤 H (𝓖 .A) mem run) 𝓜 𝓡 code.env pack-symbol.name pack-symbol.routine
     code.calls-host·pack (pack-met.met 𝓤 H 𝓜 𝓖 𝓡)))
