@@ -1,5 +1,8 @@
 //! The images that are timed, each with the literal that is asked about: one with many nodes for the image.
 
+use std::path::PathBuf;
+use std::{env, fs};
+
 use crate::images::grown;
 use foqtirel_tests::generator::all_applicable;
 use foqtirel_tests::vectors;
@@ -8,6 +11,17 @@ pub struct Case {
     pub name: String,
     pub image: Vec<u8>,
     pub literal: u32,
+}
+
+impl Case {
+    /// The image as a file, for a process of its own and for anyone with a profiler.
+    pub fn file(&self) -> PathBuf {
+        let directory = env::temp_dir().join("foqtirel-bench");
+        fs::create_dir_all(&directory).expect("a temporary directory");
+        let file = directory.join(format!("{}.img", self.name.replace([' ', '/'], "-")));
+        fs::write(&file, &self.image).expect("a temporary file");
+        file
+    }
 }
 
 /// How the names of the typical ones begin, for the target.

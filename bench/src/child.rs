@@ -50,14 +50,12 @@ pub fn once(arguments: &[String]) {
 }
 
 fn arguments(case: &Case, call: Call, side: Side) -> Vec<String> {
-    let file = env::temp_dir().join(format!("foqtirel-bench-{}.img", std::process::id()));
-    fs::write(&file, &case.image).expect("a temporary file");
     let (_, name) = SIDES.into_iter().find(|s| s.0 == side).expect("a side");
     vec![
         ONCE.into(),
         name.into(),
         call.name().into(),
-        file.display().to_string(),
+        case.file().display().to_string(),
         case.literal.to_string(),
     ]
 }
@@ -75,12 +73,18 @@ pub fn ends_within(case: &Case, call: Call, side: Side, limit: Duration) -> Opti
     Some(start.elapsed())
 }
 
+/// The C library clears a long table with one string instruction, which the simulator would count once a byte: this has it
+/// use plain stores.
+const PLAIN_STORES: &str =
+    "glibc.cpu.x86_rep_stosb_threshold=1000000000:glibc.cpu.x86_rep_movsb_threshold=1000000000";
+
 /// The instructions of a call, less those of a process without one. None without a simulator or over the limit.
 pub fn instructions(case: &Case, call: Call, side: Side, limit: Duration) -> Option<u64> {
     let collected = |side| {
         let mut command = Command::new("valgrind");
         command.args(["--tool=callgrind", "--callgrind-out-file=/dev/null"]);
         command.arg("--max-stackframe=4194304").arg(myself());
+        command.env("GLIBC_TUNABLES", PLAIN_STORES);
         command.args(arguments(case, call, side));
         let report = run(command, limit)?;
         let line = report.lines().find(|line| line.contains("Collected :"))?;
