@@ -10,10 +10,13 @@ use crate::table::{Row, HEAD};
 use crate::timing::{best_alone, best_of};
 use foqtirel_tests::vectors;
 
-/// The most that one call of one side may take, by itself or counted.
+/// The most that one call may take, by itself or counted; others are left out.
 const LIMIT: Duration = Duration::from_secs(10);
 /// A counted call takes about so many times as long.
 const COUNTING: u32 = 60;
+/// About how long the turns of one row take together.
+const TURNS_SECONDS: f64 = 4.0;
+const MOST_TURNS: usize = 9;
 
 /// A typical query's instructions, from the image's bytes to the answer, and the seconds of advising on a vector.
 const MOST_INSTRUCTIONS: u64 = 400_000;
@@ -30,65 +33,70 @@ pub fn table(only: &str) -> Vec<Row> {
             println!("{}", rows[rows.len() - 1].line());
         }
     }
-    println!("- over {} s, or not counted", LIMIT.as_secs());
+    println!("-: would take over {} s", LIMIT.as_secs());
     rows
 }
 
 fn row(case: &Case, call: Call) -> Row {
-    let (mut lent, mut other_lent) = (Tables::new(), Tables::new());
-    let once = || proved(call, &case.image, case.literal, &mut lent);
-    let other = || plain(call, &case.image, case.literal, &mut other_lent);
-    let taken = ends_within(case, call, Side::Plain, LIMIT);
-    let (seconds, plain_seconds) = match taken {
-        Some(taken) => {
-            let turns = LIMIT.as_secs_f64() / taken.as_secs_f64();
-            let best = best_of((turns as usize).clamp(2, 9), once, other);
+    let (mut lent, mut other) = (Tables::new(), Tables::new());
+    let ours = || proved(call, &case.image, case.literal, &mut lent);
+    let theirs = || plain(call, &case.image, case.literal, &mut other);
+    let alone = |side| ends_within(case, call, side, LIMIT);
+    let (our_time, their_time) = (alone(Side::Proved), alone(Side::Plain));
+    let (seconds, plain_seconds) = match our_time.zip(their_time) {
+        Some((one, other)) => {
+            let turns = (TURNS_SECONDS / (one + other).as_secs_f64()) as usize;
+            let best = best_of(turns.clamp(2, MOST_TURNS), ours, theirs);
             (best.0, Some(best.1))
         }
-        None => (best_alone(3, once), None),
+        None => (best_alone(2, ours), None),
     };
-    let countable = taken.is_some_and(|taken| taken * COUNTING < LIMIT);
-    let count = |side| instructions(case, call, side, LIMIT);
+    let count = |side, time: Option<Duration>| {
+        time.filter(|&time| time * COUNTING < LIMIT)
+            .and_then(|_| instructions(case, call, side, LIMIT))
+    };
     Row {
         image: case.name.clone(),
         call: call.name().into(),
         proved: 1e6 * seconds,
         plain: plain_seconds.map(|seconds| 1e6 * seconds),
-        instructions: count(Side::Proved),
-        plain_instructions: countable.then(|| count(Side::Plain)).flatten(),
+        instructions: count(Side::Proved, our_time),
+        plain_instructions: count(Side::Plain, their_time),
     }
 }
 
+/// Holds the counts of the typical rows and the time to advise on each vector against the targets.
 pub fn targets(rows: &[Row]) {
-    let typical = |row: &&Row| row.image.starts_with(cases::TYPICAL);
     for call in [Call::Query, Call::Host] {
-        let of_call = |row: &&Row| row.call == call.name();
-        let counts = rows.iter().filter(typical).filter(of_call);
-        if let Some(most) = counts.filter_map(|row| row.instructions).max() {
-            let met = most < MOST_INSTRUCTIONS;
-            let name = call.name();
+        let counts = rows
+            .iter()
+            .filter(|row| row.image.starts_with(cases::TYPICAL) && row.call == call.name())
+            .filter_map(|row| row.instructions);
+        if let Some(most) = counts.max() {
             println!(
-                "typical {name}: at most {most} instructions, target {MOST_INSTRUCTIONS}: {}",
-                word(met)
+                "typical {}: at most {most} instructions, target {MOST_INSTRUCTIONS}: {}",
+                call.name(),
+                word(most < MOST_INSTRUCTIONS)
             );
         }
     }
-    let advised = |name: String| {
-        progress(&format!("advise, {name}"));
-        let image = vectors::image(&name);
-        let start = Instant::now();
-        proved(Call::Advise, &image, 0, &mut Tables::new());
-        (start.elapsed().as_secs_f64(), name)
-    };
-    let all = vectors::names("img").into_iter().map(advised);
-    let (seconds, name) = all
+    let slowest = vectors::names("img").into_iter().map(advised);
+    let (seconds, name) = slowest
         .max_by(|one, other| one.0.total_cmp(&other.0))
         .expect("a vector");
-    let met = seconds < MOST_SECONDS;
     println!(
         "advise on a vector: at most {seconds:.2} s ({name}), target {MOST_SECONDS} s: {}",
-        word(met)
+        word(seconds < MOST_SECONDS)
     );
+}
+
+/// The seconds that advising on a vector takes.
+fn advised(name: String) -> (f64, String) {
+    progress(&format!("advise, {name}"));
+    let image = vectors::image(&name);
+    let start = Instant::now();
+    proved(Call::Advise, &image, 0, &mut Tables::new());
+    (start.elapsed().as_secs_f64(), name)
 }
 
 /// Shows on a terminal what is under way, to be written over by what comes next.
