@@ -14,7 +14,7 @@ use crate::cases::Case;
 /// The first argument of the process that makes one call.
 pub const ONCE: &str = "once";
 
-#[derive(Clone, Copy, PartialEq, Eq)]
+#[derive(Clone, Copy)]
 pub enum Side {
     Proved,
     Plain,
@@ -22,11 +22,17 @@ pub enum Side {
     Neither,
 }
 
-const SIDES: [(Side, &str); 3] = [
-    (Side::Proved, "proved"),
-    (Side::Plain, "reference"),
-    (Side::Neither, "neither"),
-];
+impl Side {
+    const ALL: [Side; 3] = [Side::Proved, Side::Plain, Side::Neither];
+
+    fn name(self) -> &'static str {
+        match self {
+            Side::Proved => "proved",
+            Side::Plain => "reference",
+            Side::Neither => "neither",
+        }
+    }
+}
 
 /// What the process does: side, call, file and literal are its arguments.
 pub fn once(arguments: &[String]) {
@@ -35,13 +41,11 @@ pub fn once(arguments: &[String]) {
     };
     let image = fs::read(file).expect("the image");
     let literal = literal.parse().expect("a literal");
-    let call = Call::ALL
-        .into_iter()
-        .find(|c| c.name() == call)
-        .expect("a call");
-    let (side, _) = SIDES.into_iter().find(|s| s.1 == side).expect("a side");
+    let side = Side::ALL.into_iter().find(|s| s.name() == side);
+    let call = Call::ALL.into_iter().find(|c| c.name() == call);
+    let call = call.expect("a call");
     let mut lent = Tables::new();
-    let result = match side {
+    let result = match side.expect("a side") {
         Side::Proved => proved(call, &image, literal, &mut lent),
         Side::Plain => plain(call, &image, literal, &mut lent),
         Side::Neither => 0,
@@ -50,10 +54,9 @@ pub fn once(arguments: &[String]) {
 }
 
 fn arguments(case: &Case, call: Call, side: Side) -> Vec<String> {
-    let (_, name) = SIDES.into_iter().find(|s| s.0 == side).expect("a side");
     vec![
         ONCE.into(),
-        name.into(),
+        side.name().into(),
         call.name().into(),
         case.file().display().to_string(),
         case.literal.to_string(),
@@ -73,8 +76,7 @@ pub fn ends_within(case: &Case, call: Call, side: Side, limit: Duration) -> Opti
     Some(start.elapsed())
 }
 
-/// The C library clears a long table with one string instruction, which the simulator would count once a byte: this has it
-/// use plain stores.
+/// Has the C library clear long tables by plain stores: the simulator would count its one string instruction once a byte.
 const PLAIN_STORES: &str =
     "glibc.cpu.x86_rep_stosb_threshold=1000000000:glibc.cpu.x86_rep_movsb_threshold=1000000000";
 
