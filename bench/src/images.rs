@@ -62,9 +62,10 @@ pub fn chain(reversed: bool) -> Vec<u8> {
     image(rules)
 }
 
-/// So many rules, so many of them defeasible, over a third as many atoms, with a fact for every eight rules and a pair for
-/// every two defeasible ones. A body's atoms are below the head's and have been heads before, so that most rules apply;
-/// every third head is negated, so that many arguments meet others against them.
+/// So many rules, so many of them defeasible, over half as many atoms, with a fact for every eight rules and a pair for
+/// every two defeasible ones. A body's atoms are below the head's and have been heads before, so that most rules apply.
+/// Many heads of defeasible rules are negated, so that arguments meet others against them, but few heads of strict rules,
+/// as else most sets of rules would be contradictory.
 pub fn grown(seed: u64, count: usize, defeasible: usize) -> Vec<u8> {
     let mut random = Random::seeded(seed);
     let (atoms, facts) = (count / 2, count / 8);
@@ -77,8 +78,7 @@ pub fn grown(seed: u64, count: usize, defeasible: usize) -> Vec<u8> {
     random.shuffle(&mut kinds[defeasible / 2..]);
     let mut heads: Vec<u8> = rules.iter().map(|rule| rule.head).collect();
     for kind in kinds {
-        let atom = facts..atoms;
-        let next = applicable(&mut random, &mut supply, &heads, kind, atom);
+        let next = applicable(&mut random, &mut supply, &heads, kind, facts..atoms);
         heads.push(next.head);
         rules.push(next);
     }
@@ -102,7 +102,8 @@ fn applicable(
 ) -> RuleText {
     loop {
         let atom = random.between(atoms.start, atoms.end - 1) as u8;
-        let head = 2 * atom + u8::from(random.chance(if defeasible { 40 } else { 8 }));
+        let negated = random.chance(if defeasible { 40 } else { 8 });
+        let head = 2 * atom + u8::from(negated);
         let mut body: Vec<u8> = (0..random.between(1, 2))
             .map(|_| random.pick(heads))
             .filter(|literal| literal / 2 < atom)
