@@ -1,6 +1,7 @@
 //! Nanoseconds for one closure at 96 rules: the proved `close` and the same rounds in plain Rust.
 
-use crate::{best_of, images, probe};
+use crate::timing::best_of;
+use crate::{images, probe};
 use foqtirel_tests::reference::image::read_image;
 use foqtirel_tests::reference::program::Kind;
 
@@ -82,7 +83,7 @@ pub fn report() {
         ("chain reversed", images::chain(true)),
     ];
     for (name, image) in images {
-        let (proved, plain) = best_of(|| probe::close(&image, MASKS), || all_masks(&image));
+        let (proved, plain) = best_of(9, || probe::close(&image, MASKS), || all_masks(&image));
         let each = 1e9 / MASKS as f64;
         println!(
             "{name:<22} {:>11.1} {:>9.1} {:>7.2}",

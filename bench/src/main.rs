@@ -1,32 +1,44 @@
-//! Times the proved library against loops in Rust, both built for release, in one run. Each figure is the best of
-//! several turns that alternate between the two, so that a load on the machine falls on both.
+//! Times the proved library against Rust, both built for release, in one run.
+//!
+//! `--out FILE` keeps the table of the calls, `--compare FILE` prints what changed since such a file was written, and
+//! `--only TEXT` leaves out the images without the text in their name.
 
+mod calls;
+mod cases;
+mod child;
 mod closing;
 mod images;
-mod listing;
+mod measuring;
 mod probe;
-
-use std::time::Instant;
-
-const TURNS: usize = 9;
-
-/// Seconds of the best turn of each side.
-pub fn best_of(mut proved: impl FnMut() -> u64, mut plain: impl FnMut() -> u64) -> (f64, f64) {
-    let mut best = (f64::MAX, f64::MAX);
-    for _ in 0..TURNS {
-        let start = Instant::now();
-        let first = proved();
-        best.0 = best.0.min(start.elapsed().as_secs_f64());
-        let start = Instant::now();
-        let second = plain();
-        best.1 = best.1.min(start.elapsed().as_secs_f64());
-        assert_eq!(first, second, "the two sides disagree");
-    }
-    best
-}
+mod table;
+mod timing;
 
 fn main() {
+    let arguments: Vec<String> = std::env::args().skip(1).collect();
+    if arguments.first().is_some_and(|first| first == child::ONCE) {
+        return child::once(&arguments[1..]);
+    }
+    let (mut out, mut compare, mut only) = (None, None, String::new());
+    for option in arguments.chunks(2) {
+        match option {
+            [name, file] if name == "--out" => out = Some(file),
+            [name, file] if name == "--compare" => compare = Some(file),
+            [name, text] if name == "--only" => only.clone_from(text),
+            _ => panic!("--out FILE, --compare FILE or --only TEXT, but not {option:?}"),
+        }
+    }
+    // Read before anything is measured, so that a wrong name shows at once, and --out may name the same file.
+    let before = compare.map(|file| table::read(file));
     closing::report();
     println!();
-    listing::report();
+    let rows = measuring::table(&only);
+    if let Some(file) = out {
+        table::write(file, &rows);
+    }
+    if let Some(before) = before {
+        println!();
+        table::compare(&before, &rows);
+    }
+    println!();
+    measuring::targets(&rows);
 }

@@ -1,0 +1,94 @@
+//! The calls of both sides, each with one number as its result, so that the two can be held against each other.
+
+use crate::probe;
+use foqtirel_tests::reference::{self, host_number, Analysis, NodeEntry, Refusal, MOST_NODES};
+
+#[derive(Clone, Copy)]
+pub enum Call {
+    Check,
+    List,
+    /// With lent tables.
+    Query,
+    /// The C call.
+    Host,
+    /// The C call for every literal of the image.
+    Advise,
+}
+
+impl Call {
+    pub const ALL: [Call; 5] = [
+        Call::Check,
+        Call::List,
+        Call::Query,
+        Call::Host,
+        Call::Advise,
+    ];
+
+    pub fn name(self) -> &'static str {
+        match self {
+            Call::Check => "check",
+            Call::List => "list",
+            Call::Query => "query",
+            Call::Host => "C call",
+            Call::Advise => "advise",
+        }
+    }
+}
+
+/// What a caller lends.
+pub struct Tables {
+    arguments: Vec<u32>,
+    nodes: Vec<probe::Node>,
+    entries: Vec<NodeEntry>,
+}
+
+impl Tables {
+    pub fn new() -> Tables {
+        Tables {
+            arguments: vec![0; MOST_NODES],
+            nodes: vec![probe::Node::default(); MOST_NODES],
+            entries: vec![NodeEntry::default(); MOST_NODES],
+        }
+    }
+}
+
+pub fn proved(call: Call, image: &[u8], literal: u32, lent: &mut Tables) -> u64 {
+    match call {
+        Call::Check => probe::check(image) >> 32,
+        Call::List => probe::list(image, &mut lent.arguments),
+        Call::Query => probe::query(image, literal, &mut lent.arguments, &mut lent.nodes),
+        Call::Host => probe::host_query(image, literal),
+        Call::Advise => sum(image, |literal| probe::host_query(image, literal)),
+    }
+}
+
+/// The reference advises from one reading of the image, as it would for a caller with many questions.
+pub fn plain(call: Call, image: &[u8], literal: u32, lent: &mut Tables) -> u64 {
+    let budget = MOST_NODES as u32;
+    let (arguments, entries) = (&mut lent.arguments, &mut lent.entries);
+    match call {
+        Call::Check => reference::check(image).map_or_else(number, |()| 0),
+        Call::List => reference::list(image, arguments).map_or_else(number, |count| count as u64),
+        Call::Query => {
+            let answer = reference::query(image, literal, budget, arguments, entries);
+            host_number(answer).into()
+        }
+        Call::Host => reference::host_call(image, literal, budget).into(),
+        Call::Advise => match Analysis::of_image(image) {
+            Ok(analysis) => sum(image, |literal| analysis.host_call(literal, budget).into()),
+            Err(refusal) => sum(image, |_| number(refusal)),
+        },
+    }
+}
+
+fn number(refusal: Refusal) -> u64 {
+    refusal.cause.number().into()
+}
+
+/// All answers in one number, in which two answers that changed places show.
+fn sum(image: &[u8], answer: impl Fn(u32) -> u64) -> u64 {
+    let literals = 2 * u32::from(image.first().copied().unwrap_or(0));
+    (0..literals).fold(0, |all: u64, literal| {
+        all.wrapping_mul(31).wrapping_add(answer(literal))
+    })
+}

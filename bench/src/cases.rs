@@ -1,0 +1,62 @@
+//! The images that are timed, each with the literal that is asked about: one with many nodes for the image.
+
+use std::path::PathBuf;
+use std::{env, fs};
+
+use crate::images::grown;
+use foqtirel_tests::generator::all_applicable;
+use foqtirel_tests::vectors;
+
+pub struct Case {
+    pub name: String,
+    pub image: Vec<u8>,
+    pub literal: u32,
+}
+
+impl Case {
+    /// The image as a file, for a process of its own and for anyone with a profiler.
+    pub fn file(&self) -> PathBuf {
+        let directory = env::temp_dir().join("foqtirel-bench");
+        fs::create_dir_all(&directory).expect("a temporary directory");
+        let file = directory.join(format!("{}.img", self.name.replace([' ', '/'], "-")));
+        fs::write(&file, &self.image).expect("a temporary file");
+        file
+    }
+}
+
+/// How the names of the typical ones begin, for the target.
+pub const TYPICAL: &str = "typical";
+
+pub fn all() -> Vec<Case> {
+    let mut cases = Vec::new();
+    let mut add = |name: String, image, literal| {
+        cases.push(Case {
+            name,
+            image,
+            literal,
+        })
+    };
+    for (seed, rules, defeasible, literal) in [
+        (3, 20, 6, 14),
+        (5, 27, 8, 18),
+        (7, 33, 9, 28),
+        (2, 40, 10, 38),
+    ] {
+        let image = grown(seed, rules, defeasible);
+        add(format!("{TYPICAL} {rules}/{defeasible}"), image, literal);
+    }
+    for (seed, letter) in [(1, 'a'), (6, 'b')] {
+        add(format!("large 96/12 {letter}"), grown(seed, 96, 12), 94);
+    }
+    add("16 all apply".into(), all_applicable(16).image(), 32);
+    for (name, literal) in [
+        ("slowchain", 126),
+        ("bodies8", 116),
+        ("n4096", 20),
+        ("args4096", 102),
+        ("deep180", 22),
+    ] {
+        add(name.into(), vectors::image(name), literal);
+    }
+    cases
+}

@@ -1,0 +1,115 @@
+//! The table of the calls, and the targets.
+
+use std::io::{stderr, IsTerminal};
+use std::time::{Duration, Instant};
+
+use crate::calls::{plain, proved, Call, Tables};
+use crate::cases::{self, Case};
+use crate::child::{ends_within, instructions, Side};
+use crate::table::{Row, HEAD};
+use crate::timing::{best_alone, best_of};
+use foqtirel_tests::vectors;
+
+/// The most that one call may take, by itself or counted; others are left out.
+const LIMIT: Duration = Duration::from_secs(10);
+/// A counted call takes about so many times as long.
+const COUNTING: u32 = 60;
+/// About how long the turns of one row take together.
+const TURNS_SECONDS: f64 = 4.0;
+const MOST_TURNS: usize = 9;
+
+/// A typical query's instructions, from the image's bytes to the answer, and the seconds of advising on a vector.
+const MOST_INSTRUCTIONS: u64 = 400_000;
+const MOST_SECONDS: f64 = 5.0;
+
+/// Prints the row of every call on the images whose name has the text in it.
+pub fn table(only: &str) -> Vec<Row> {
+    println!("{HEAD}");
+    let mut rows = Vec::new();
+    for case in cases::all().iter().filter(|case| case.name.contains(only)) {
+        for call in Call::ALL {
+            progress(&format!("{}, {}", case.name, call.name()));
+            rows.push(row(case, call));
+            println!("{}", rows[rows.len() - 1].line());
+        }
+    }
+    println!("-: would take over {} s", LIMIT.as_secs());
+    rows
+}
+
+fn row(case: &Case, call: Call) -> Row {
+    let (mut lent, mut other) = (Tables::new(), Tables::new());
+    let ours = || proved(call, &case.image, case.literal, &mut lent);
+    let theirs = || plain(call, &case.image, case.literal, &mut other);
+    let alone = |side| ends_within(case, call, side, LIMIT);
+    let (our_time, their_time) = (alone(Side::Proved), alone(Side::Plain));
+    let (seconds, plain_seconds) = match our_time.zip(their_time) {
+        Some((one, other)) => {
+            let turns = (TURNS_SECONDS / (one + other).as_secs_f64()) as usize;
+            let best = best_of(turns.clamp(2, MOST_TURNS), ours, theirs);
+            (best.0, Some(best.1))
+        }
+        None => (best_alone(2, ours), None),
+    };
+    let count = |side, time: Option<Duration>| {
+        time.filter(|&time| time * COUNTING < LIMIT)
+            .and_then(|_| instructions(case, call, side, LIMIT))
+    };
+    Row {
+        image: case.name.clone(),
+        call: call.name().into(),
+        proved: 1e6 * seconds,
+        plain: plain_seconds.map(|seconds| 1e6 * seconds),
+        instructions: count(Side::Proved, our_time),
+        plain_instructions: count(Side::Plain, their_time),
+    }
+}
+
+/// Holds the counts of the typical rows and the time to advise on each vector against the targets.
+pub fn targets(rows: &[Row]) {
+    for call in [Call::Query, Call::Host] {
+        let counts = rows
+            .iter()
+            .filter(|row| row.image.starts_with(cases::TYPICAL) && row.call == call.name())
+            .filter_map(|row| row.instructions);
+        if let Some(most) = counts.max() {
+            println!(
+                "typical {}: at most {most} instructions, target {MOST_INSTRUCTIONS}: {}",
+                call.name(),
+                word(most < MOST_INSTRUCTIONS)
+            );
+        }
+    }
+    let slowest = vectors::names("img").into_iter().map(advised);
+    let (seconds, name) = slowest
+        .max_by(|one, other| one.0.total_cmp(&other.0))
+        .expect("a vector");
+    println!(
+        "advise on a vector: at most {seconds:.2} s ({name}), target {MOST_SECONDS} s: {}",
+        word(seconds < MOST_SECONDS)
+    );
+}
+
+/// The seconds that advising on a vector takes.
+fn advised(name: String) -> (f64, String) {
+    progress(&format!("advise, {name}"));
+    let image = vectors::image(&name);
+    let start = Instant::now();
+    proved(Call::Advise, &image, 0, &mut Tables::new());
+    (start.elapsed().as_secs_f64(), name)
+}
+
+/// Shows on a terminal what is under way, to be written over by what comes next.
+fn progress(text: &str) {
+    if stderr().is_terminal() {
+        eprint!("{text:<30}\r");
+    }
+}
+
+fn word(met: bool) -> &'static str {
+    if met {
+        "met"
+    } else {
+        "missed"
+    }
+}

@@ -1,0 +1,108 @@
+//! The rows of the table: printed, kept in a file of tab-separated values, and held against those of an earlier file.
+
+use std::fs;
+
+/// Times are in microseconds. What is not known was over the limit or could not be counted.
+#[derive(Clone)]
+pub struct Row {
+    pub image: String,
+    pub call: String,
+    pub proved: f64,
+    pub plain: Option<f64>,
+    pub instructions: Option<u64>,
+    pub plain_instructions: Option<u64>,
+}
+
+pub const HEAD: &str =
+    "image            call      proved us  reference us    ratio  proved instr.  reference instr.";
+
+impl Row {
+    pub fn line(&self) -> String {
+        format!(
+            "{:<16} {:<7} {:>11.1} {:>13} {:>8} {:>14} {:>17}",
+            self.image,
+            self.call,
+            self.proved,
+            shown(self.plain.map(|plain| format!("{plain:.1}"))),
+            shown(
+                self.plain
+                    .map(|plain| format!("{:.4}", self.proved / plain))
+            ),
+            shown(self.instructions),
+            shown(self.plain_instructions),
+        )
+    }
+
+    fn record(&self) -> String {
+        format!(
+            "{}\t{}\t{:.3}\t{}\t{}\t{}\n",
+            self.image,
+            self.call,
+            self.proved,
+            shown(self.plain.map(|plain| format!("{plain:.3}"))),
+            shown(self.instructions),
+            shown(self.plain_instructions),
+        )
+    }
+
+    fn parse(line: &str) -> Option<Row> {
+        let fields: Vec<&str> = line.split('\t').collect();
+        let [image, call, proved, plain, instructions, plain_instructions] = fields[..] else {
+            return None;
+        };
+        Some(Row {
+            image: image.into(),
+            call: call.into(),
+            proved: proved.parse().ok()?,
+            plain: plain.parse().ok(),
+            instructions: instructions.parse().ok(),
+            plain_instructions: plain_instructions.parse().ok(),
+        })
+    }
+}
+
+fn shown(value: Option<impl ToString>) -> String {
+    value.map_or("-".into(), |value| value.to_string())
+}
+
+const FIELDS: &str = "image\tcall\tproved_us\treference_us\tinstructions\treference_instructions\n";
+
+pub fn write(file: &str, rows: &[Row]) {
+    let records: String = rows.iter().map(Row::record).collect();
+    fs::write(file, format!("{FIELDS}{records}")).unwrap_or_else(|error| panic!("{file}: {error}"));
+}
+
+pub fn read(file: &str) -> Vec<Row> {
+    let text = fs::read_to_string(file).unwrap_or_else(|error| panic!("{file}: {error}"));
+    text.lines().skip(1).filter_map(Row::parse).collect()
+}
+
+/// Prints by how much each row changed. Of the times only the ratio can be compared between two runs.
+pub fn compare(before: &[Row], now: &[Row]) {
+    println!("change in %      call    instructions    ratio");
+    for row in now {
+        let same = |other: &&Row| other.image == row.image && other.call == row.call;
+        let Some(old) = before.iter().find(same) else {
+            println!("{:<16} {:<7} {:>12}", row.image, row.call, "new");
+            continue;
+        };
+        let count = |row: &Row| row.instructions.map(|count| count as f64);
+        let ratio = |row: &Row| row.plain.map(|plain| row.proved / plain);
+        println!(
+            "{:<16} {:<7} {:>12} {:>8}",
+            row.image,
+            row.call,
+            change(count(old), count(row)),
+            change(ratio(old), ratio(row)),
+        );
+    }
+}
+
+fn change(before: Option<f64>, now: Option<f64>) -> String {
+    match (before, now) {
+        (Some(before), Some(now)) if before > 0.0 => {
+            format!("{:+.1}", 100.0 * (now / before - 1.0))
+        }
+        _ => "-".into(),
+    }
+}
