@@ -1,70 +1,108 @@
--- The loops that make the exclusion table, a law for each turn and for each way out, over plain numbers. Assumes nothing.
+-- The exclusion table: two literals against each other, then the loops that make it, a law for each turn and for each way
+-- out, over plain numbers. Assumes nothing.
 use mathlib.Core.Path.{_≡_, refl, sym, ap, ap₂, _∙_, subst}
 use mathlib.Core.Bool.{Bool, true, false, _&&_, false≢true}
 use mathlib.Core.List.{List, [], _∷_, List·Memᴰ, List·Memᴰ·not-nil, List·Memᴰ·cases-cons}
 use mathlib.Core.Logic.{⊎-elim}
 use Prim.Native.Nat.{ℕ, zero, suc, _+_, _*_, _^_, _<_, _≤_}
+use native.Mathlib.Nat.{le-refl}
 use native.Mathlib.Omega.{arith}
 use lib.ListN.{length, getD, set, take, length-set}
 use lib.Seq.{getD-set-same, getD-set-other}
 use borrow.Author.Count.{below-more}
-use Rattle.literals.specs.Sets.{has, insert, clash}
+use Rattle.literals.specs.Sets.{has, insert, union, within, clash}
 use Rattle.literals.specs.Words.{joined}
 use Rattle.literals.proofs.Tests.{same-test, and-left}
 use Rattle.literals.proofs.Members.{has-empty, has-bound, has-insert-same, insert-cases, insert-keeps}
-use Rattle.literals.proofs.Within.{within-each, within-trans, within-insert, insert-within}
+use Rattle.literals.proofs.Within.{within-each, within-empty, within-trans, within-union-left, within-union-right, union-within}
+use Rattle.literals.proofs.Within.{within-insert, insert-within}
+use Rattle.literals.proofs.Clashes.{clash-mono}
 use Rattle.program.specs.Program.{Rule, Program, Π-mask, Π}
 use Rattle.program.specs.Table.{Holds}
 use Rattle.derivation.specs.Closure.{closure, excludes}
-use Rattle.derivation.proofs.Closures.{closure-contains, closure-mono, closure-cut}
+use Rattle.derivation.proofs.Closures.{closure-contains, closure-mono, closure-cut, closure-idempotent}
 use Rattle.derivation.proofs.Choices.{Π-mask-empty}
+use Rattle.derivation.proofs.Contradictions.{excludes-sym}
 use Rattle.argument.specs.Argument.{literalOf}
 use Rattle.defeat.specs.Exclusions.{excludedBy, Excluded, Conclusions}
-use Rattle.defeat.specs.Steps.{RowOf}
+use Rattle.defeat.specs.Steps.{RowOf, Begun}
+
+-- ---- two literals
+
+-- what two literals derive together, from what each derives
+module _ (rules : List Rule) (x y : ℕ) where
+  abbrev pub together : Bool
+  together = clash (closure (Π rules) (union x y))
+
+  together-excludes : (a b : ℕ) → x ≡ closure (Π rules) (insert 0 a) → y ≡ closure (Π rules) (insert 0 b) → together ≡ excludes rules a b
+  together-excludes a b ex ey =
+      ap clash (closure-cut (Π rules) both (union x y)
+      (insert-within one b (union x y)
+      (within-trans one x (union x y) (own a x ex) (within-union-left x y))
+      (within-each y (union x y) (within-union-right x y) b
+      (within-each (insert 0 b) y (own b y ey) b (has-insert-same 0 b))))
+      (union-within x y (closure (Π rules) both) (part a x ex (within-insert one b))
+      (part b y ey (insert-within 0 b both (within-empty both) (has-insert-same one b)))))
+    where
+      one : ℕ
+      one = insert 0 a
+
+      both : ℕ
+      both = insert one b
+
+      own : (k z : ℕ) → z ≡ closure (Π rules) (insert 0 k) → within (insert 0 k) z ≡ true
+      own k z e = rw e (closure-contains (Π rules) (insert 0 k))
+
+      part : (k z : ℕ) → z ≡ closure (Π rules) (insert 0 k) → within (insert 0 k) both ≡ true
+          → within z (closure (Π rules) both) ≡ true
+      part k z e w = rw e (closure-mono (Π rules) (Π rules) (λ r i. i) (insert 0 k) both w)
+
+  module _ (both : ℕ) (is : both ≡ union x y) where
+    pub together-clash : clash both ≡ true → true ≡ together
+    together-clash c =
+        sym (clash-mono 64 (union x y) (closure (Π rules) (union x y)) (closure-contains (Π rules) (union x y)) (ap clash (sym is) ∙ c))
+
+    -- where one set has the other, they derive nothing more
+    pub together-same : (z : ℕ) → both ≡ z → closure (Π rules) z ≡ z → clash both ≡ false → false ≡ together
+    together-same z e closed c =
+        sym (ap (λ (s : ℕ). clash (closure (Π rules) s)) (sym is ∙ e) ∙ ap clash (closed ∙ sym e) ∙ c)
+
+    pub together-closed : (c : ℕ) (r : Bool) → c ≡ closure (Π-mask 0 rules) both → r ≡ clash c → r ≡ together
+    together-closed c r ec er = er ∙ ap clash (ec ∙ ap₂ closure (Π-mask-empty rules) is)
+
+-- the literals of u that exclude a
+abbrev pub rowTest : List Rule → ℕ → ℕ → ℕ → Bool
+rowTest rules u a b = has u b && excludes rules a b
+
+pub pair-outside : (rules : List Rule) (u a b : ℕ) → has u b ≡ false → false ≡ rowTest rules u a b
+pair-outside rules u a b n = sym (ap (λ (t : Bool). t && excludes rules a b) n)
+
+-- the literal b against a, by the row of b
+module _ (rules : List Rule) (u a b other : ℕ) (e : List ℕ) (begun : Begun rules u a e) (row : other ≡ excludedBy e b) where
+  module _ (mine : has u a ≡ true) (its : has u b ≡ true) where
+    its-test : (r : Bool) → r ≡ excludes rules a b → r ≡ rowTest rules u a b
+    its-test r q = q ∙ sym (ap (λ (t : Bool). t && excludes rules a b) its)
+
+    -- the row of b is done, and says it of a
+    pub pair-before : b < a → (r : Bool) → r ≡ has other a → r ≡ rowTest rules u a b
+    pair-before l r q =
+        its-test r
+        (q ∙ ap (λ (s : ℕ). has s a) row ∙ begun .rows b l its a ∙ ap (λ (t : Bool). t && excludes rules b a) mine
+        ∙ excludes-sym rules b a)
+
+    -- it has what b derives
+    module _ (l : a ≤ b) where
+      its-derived : other ≡ closure (Π rules) (insert 0 b)
+      its-derived = row ∙ begun .derived b l its
+
+      pub pair-closed : closure (Π rules) other ≡ other
+      pair-closed = rw its-derived (closure-idempotent (Π rules) (insert 0 b))
+
+      pub pair-after : (derived : ℕ) → derived ≡ excludedBy e a → (r : Bool) → r ≡ together rules derived other → r ≡ rowTest rules u a b
+      pair-after derived q r t =
+          its-test r (t ∙ together-excludes rules derived other a b (q ∙ begun .derived a (le-refl a) mine) its-derived)
 
 -- ---- one row
-
--- what one literal derives may be given in its place
-excludes-from : (rules : List Rule) (a b derived : ℕ) → derived ≡ closure (Π-mask 0 rules) (insert 0 a)
-    → clash (closure (Π rules) (insert derived b)) ≡ excludes rules a b
-excludes-from rules a b derived e =
-    ap (λ (s : ℕ). clash (closure (Π rules) (insert s b))) (e ∙ ap (λ (l : List Rule). closure l one) (Π-mask-empty rules))
-    ∙ ap clash (closure-cut (Π rules) both more
-    (insert-within one b more (within-trans one base more (closure-contains (Π rules) one) (within-insert base b))
-    (has-insert-same base b))
-    (insert-within base b (closure (Π rules) both)
-    (closure-mono (Π rules) (Π rules) (λ r i. i) one both (within-insert one b))
-    (within-each both (closure (Π rules) both) (closure-contains (Π rules) both) b (has-insert-same one b))))
-  where
-    one : ℕ
-    one = insert 0 a
-
-    base : ℕ
-    base = closure (Π rules) one
-
-    both : ℕ
-    both = insert one b
-
-    more : ℕ
-    more = insert base b
-
--- the same as the code has it: b is one of u, and excludes a
-module _ (rules : List Rule) (u b derived : ℕ) where
-  abbrev pub clashesBy : Bool
-  clashesBy = has u b && clash (closure (Π rules) (insert derived b))
-
-  pub clashes-closed : (s c : ℕ) (h r : Bool) → h ≡ has u b → h ≡ true → s ≡ insert derived b
-      → c ≡ closure (Π-mask 0 rules) s → r ≡ clash c → r ≡ clashesBy
-  clashes-closed s c h r eh t es ec er =
-      er ∙ ap clash (ec ∙ ap₂ closure (Π-mask-empty rules) es)
-      ∙ sym (ap (λ (x : Bool). x && clash (closure (Π rules) (insert derived b))) (sym eh ∙ t))
-
-  pub clashes-excludes : (a none one : ℕ) (r : Bool) → none ≡ 0 → one ≡ insert none a
-      → derived ≡ closure (Π-mask 0 rules) one → r ≡ clashesBy → r ≡ (has u b && excludes rules a b)
-  clashes-excludes a none one r p q s e =
-      e ∙ ap (λ (x : Bool). has u b && x)
-      (excludes-from rules a b derived
-      (s ∙ ap (closure (Π-mask 0 rules)) (q ∙ ap (λ (x : ℕ). insert x a) p)))
 
 -- s has only numbers that pass, and all of those below n
 pub record Upto (test : ℕ → Bool) (n s : ℕ) : Type 0 where
@@ -96,10 +134,6 @@ module _ (test : ℕ → Bool) where
   upto-all : (n s : ℕ) → ((k : ℕ) → test k ≡ true → k < n) → Upto test n s → (k : ℕ) → has s k ≡ test k
   upto-all n s below w k = same-test (has s k) (test k) (w .found k) (λ h. w .all k (below k h) h)
 
--- the literals of u that exclude a
-abbrev pub rowTest : List Rule → ℕ → ℕ → ℕ → Bool
-rowTest rules u a b = has u b && excludes rules a b
-
 pub row-all : (rules : List Rule) (u a n s : ℕ) → u < 2 ^ 128 → 128 ≤ n → Upto (rowTest rules u a) n s → RowOf rules u a s
 row-all rules u a n s below l =
     upto-all (rowTest rules u a) n s (λ k h.
@@ -107,9 +141,18 @@ row-all rules u a n s below l =
 
 -- ---- the rows of all literals
 
--- the rows of the first n literals
-abbrev RowsTo : List Rule → ℕ → ℕ → List ℕ → Type 0
-RowsTo rules u n e = (a : ℕ) → a < n → has u a ≡ true → RowOf rules u a (excludedBy e a)
+-- each row of the first n literals, as far as it is one of u's, has P
+abbrev RowsTo : (ℕ → ℕ → Type 0) → ℕ → ℕ → List ℕ → Type 0
+RowsTo P u n e = (a : ℕ) → a < n → has u a ≡ true → P a (excludedBy e a)
+
+rows-none : (P : ℕ → ℕ → Type 0) (u : ℕ) (e : List ℕ) → RowsTo P u 0 e
+rows-none P u e a l = absurd (none a l)
+  where
+    none : (k : ℕ) → k < 0 → ⊥
+    none k h = omega arith
+
+rows-skip : (P : ℕ → ℕ → Type 0) (u n : ℕ) (e : List ℕ) → has u n ≡ false → RowsTo P u n e → RowsTo P u (n + 1) e
+rows-skip P u n e h rows = below-more _ n rows (λ i. absurd (false≢true (sym h ∙ i)))
 
 module _ (e : List ℕ) (a lo hi : ℕ) (room : 2 * a + 1 < length e) where
   abbrev stored : List ℕ
@@ -121,59 +164,110 @@ module _ (e : List ℕ) (a lo hi : ℕ) (room : 2 * a + 1 < length e) where
       (getD-set-other (set e (2 * a) lo) (2 * a + 1) (2 * a) hi 0 (λ q. omega arith)
       ∙ getD-set-same e (2 * a) lo 0 (omega arith))
 
-  stored-other : (b : ℕ) → b < a → excludedBy stored b ≡ excludedBy e b
-  stored-other b l = ap₂ joined (kept (2 * b + 1) (omega arith)) (kept (2 * b) (omega arith))
+  stored-other : (b : ℕ) → (b ≡ a → ⊥) → excludedBy stored b ≡ excludedBy e b
+  stored-other b o = ap₂ joined (kept (2 * b + 1) (λ q. o (omega arith)) (λ q. o (omega arith))) (kept (2 * b) (λ q. o (omega arith)) (λ q. o (omega arith)))
     where
-      kept : (k : ℕ) → k < 2 * a → getD stored k 0 ≡ getD e k 0
-      kept k h =
-          getD-set-other (set e (2 * a) lo) (2 * a + 1) k hi 0 (λ q. omega arith)
-          ∙ getD-set-other e (2 * a) k lo 0 (λ q. omega arith)
+      kept : (k : ℕ) → (k ≡ 2 * a → ⊥) → (k ≡ 2 * a + 1 → ⊥) → getD stored k 0 ≡ getD e k 0
+      kept k f g =
+          getD-set-other (set e (2 * a) lo) (2 * a + 1) k hi 0 g
+          ∙ getD-set-other e (2 * a) k lo 0 f
 
-  rows-more : (rules : List Rule) (u : ℕ) → RowsTo rules u a e → RowOf rules u a (joined hi lo)
-      → RowsTo rules u (a + 1) stored
-  rows-more rules u rows row =
-      below-more _ a (λ b l h. subst (RowOf rules u b) (sym (stored-other b l)) (rows b l h))
-      (λ h. subst (RowOf rules u a) (sym stored-same) row)
+  rows-more : (P : ℕ → ℕ → Type 0) (u : ℕ) → RowsTo P u a e → P a (joined hi lo) → RowsTo P u (a + 1) stored
+  rows-more P u rows row =
+      below-more _ a (λ b l h. subst (P b) (sym (stored-other b (λ q. omega arith))) (rows b l h))
+      (λ h. subst (P a) (sym stored-same) row)
 
-rows-all : (rules : List Rule) (u n : ℕ) (e : List ℕ) → u < 2 ^ 128 → 128 ≤ n → RowsTo rules u n e → Excluded rules u e
-rows-all rules u n e below l rows = record {
+  begun-more : (rules : List Rule) (u : ℕ) → Begun rules u a e → RowOf rules u a (joined hi lo) → Begun rules u (a + 1) stored
+  begun-more rules u begun row = record {
+    rows = rows-more (RowOf rules u) u (begun .rows) row;
+    derived = λ b l h. stored-other b (λ q. omega arith) ∙ begun .derived b (omega arith) h;
+  }
+
+begun-skip : (rules : List Rule) (u n : ℕ) (e : List ℕ) → has u n ≡ false → Begun rules u n e → Begun rules u (n + 1) e
+begun-skip rules u n e h begun = record {
+  rows = rows-skip (RowOf rules u) u n e h (begun .rows);
+  derived = λ b l. begun .derived b (omega arith);
+}
+
+-- the row is what the literal alone derives
+abbrev pub Alone : List Rule → ℕ → ℕ → Type 0
+Alone rules a s = s ≡ closure (Π rules) (insert 0 a)
+
+begun-none : (rules : List Rule) (u n : ℕ) (e : List ℕ) → u < 2 ^ 128 → 128 ≤ n → RowsTo (Alone rules) u n e → Begun rules u 0 e
+begun-none rules u n e below l rows = record {
+  rows = rows-none (RowOf rules u) u e;
+  derived = λ a z h. rows a (omega (arith, has-bound u 128 a below h)) h;
+}
+
+begun-all : (rules : List Rule) (u n : ℕ) (e : List ℕ) → u < 2 ^ 128 → 128 ≤ n → Begun rules u n e → Excluded rules u e
+begun-all rules u n e below l begun = record {
   exact = λ a b h i. row a h b ∙ ap (λ (t : Bool). t && excludes rules a b) i;
   only = λ a b h i. and-left (has u b) (excludes rules a b) (sym (row a h b) ∙ i);
 }
   where
     row : (a : ℕ) → has u a ≡ true → RowOf rules u a (excludedBy e a)
-    row a h = rows a (omega (arith, has-bound u 128 a below h)) h
+    row a h = begun .rows a (omega (arith, has-bound u 128 a below h)) h
 
--- what holds of the exclusion table e, begun as e₀, when the literals below n have their rows
-pub record Filling (t : List ℕ) (u : ℕ) (e₀ e : List ℕ) (n : ℕ) : Type 0 where
+-- what holds of the exclusion table e, begun as e₀
+pub record Filling (t e₀ e : List ℕ) (P : Program → List ℕ → Type 0) : Type 0 where
   pub kept : length e ≡ length e₀
-  pub rows : length e₀ ≡ 256 → (p : Program) → Holds p t → RowsTo (p .rules) u n e
+  pub rows : length e₀ ≡ 256 → (p : Program) → Holds p t → P p e
 
-module _ (t : List ℕ) (u : ℕ) (e₀ : List ℕ) where
-  pub filling-none : Filling t u e₀ e₀ 0
-  filling-none = record { kept = refl; rows = λ z p holds a l. absurd (none a l) }
-    where
-      none : (a : ℕ) → a < 0 → ⊥
-      none a l = omega arith
+module _ (t e₀ : List ℕ) (P Q : Program → List ℕ → Type 0) where
+  filling-map : (e : List ℕ) → ((p : Program) → P p e → Q p e) → Filling t e₀ e P → Filling t e₀ e Q
+  filling-map e f w = record { kept = w .kept; rows = λ z p holds. f p (w .rows z p holds) }
 
-  pub filling-skip : (e : List ℕ) (n : ℕ) → has u n ≡ false → Filling t u e₀ e n → Filling t u e₀ e (n + 1)
-  filling-skip e n h w = record {
-    kept = w .kept;
-    rows = λ z p holds. below-more _ n (w .rows z p holds) (λ i. absurd (false≢true (sym h ∙ i)));
-  }
-
-  pub filling-more : (e f : List ℕ) (n lo hi : ℕ) → n < 128
-      → ((p : Program) → Holds p t → RowOf (p .rules) u n (joined hi lo))
-      → f ≡ set (set e (2 * n) lo) (2 * n + 1) hi → Filling t u e₀ e n → Filling t u e₀ f (n + 1)
-  filling-more e f n lo hi l row q w = rw q (record {
+  filling-store : (e f : List ℕ) (a lo hi : ℕ) → a < 128 → f ≡ set (set e (2 * a) lo) (2 * a + 1) hi
+      → ((p : Program) → Holds p t → 2 * a + 1 < length e → P p e → Q p (set (set e (2 * a) lo) (2 * a + 1) hi))
+      → Filling t e₀ e P → Filling t e₀ f Q
+  filling-store e f a lo hi l q g w = rw q (record {
     kept = simp length-set (w .kept);
-    rows = λ z p holds.
-        rows-more e n lo hi (omega (arith, w .kept)) (p .rules) u (w .rows z p holds) (row p holds);
+    rows = λ z p holds. g p holds (omega (arith, w .kept)) (w .rows z p holds);
   })
 
-  pub filling-all : (e : List ℕ) (n : ℕ) → u < 2 ^ 128 → 128 ≤ n → Filling t u e₀ e n
+module _ (t : List ℕ) (u : ℕ) (e₀ : List ℕ) where
+  -- what each of the first n literals alone derives
+  abbrev pub Deriving : List ℕ → ℕ → Type 0
+  Deriving e n = Filling t e₀ e (λ p e. RowsTo (Alone (p .rules)) u n e)
+
+  pub deriving-none : Deriving e₀ 0
+  deriving-none = record { kept = refl; rows = λ z p holds. rows-none (Alone (p .rules)) u e₀ }
+
+  pub deriving-skip : (e : List ℕ) (n : ℕ) → has u n ≡ false → Deriving e n → Deriving e (n + 1)
+  deriving-skip e n h = filling-map t e₀ _ _ e (λ p. rows-skip (Alone (p .rules)) u n e h)
+
+  pub deriving-more : (e f : List ℕ) (n lo hi none one : ℕ) → n < 128 → none ≡ 0 → one ≡ insert none n
+      → ((p : Program) → Holds p t → joined hi lo ≡ closure (Π-mask 0 (p .rules)) one)
+      → f ≡ set (set e (2 * n) lo) (2 * n + 1) hi → Deriving e n → Deriving f (n + 1)
+  deriving-more e f n lo hi none one l z o closed q =
+      filling-store t e₀ _ _ e f n lo hi l q (λ p holds room rows.
+      rows-more e n lo hi room (Alone (p .rules)) u rows
+      (closed p holds ∙ ap₂ closure (Π-mask-empty (p .rules)) (o ∙ ap (λ (s : ℕ). insert s n) z)))
+
+  pub deriving-all : (e : List ℕ) (n : ℕ) → u < 2 ^ 128 → 128 ≤ n → Deriving e n
+      → length e₀ ≡ 256 → (p : Program) → Holds p t → Begun (p .rules) u 0 e
+  deriving-all e n below l w z p holds = begun-none (p .rules) u n e below l (w .rows z p holds)
+
+  -- the rows of the first n literals are done
+  abbrev pub Rowing : List ℕ → ℕ → Type 0
+  Rowing e n = Filling t e₀ e (λ p e. Begun (p .rules) u n e)
+
+  pub rowing-none : (n : ℕ) → length e₀ ≡ n → (n ≡ 256 → (p : Program) → Holds p t → Begun (p .rules) u 0 e₀) → Rowing e₀ 0
+  rowing-none n k w = record { kept = refl; rows = λ z. w (sym k ∙ z) }
+
+  pub rowing-skip : (e : List ℕ) (n : ℕ) → has u n ≡ false → Rowing e n → Rowing e (n + 1)
+  rowing-skip e n h = filling-map t e₀ _ _ e (λ p. begun-skip (p .rules) u n e h)
+
+  pub rowing-more : (e f : List ℕ) (n lo hi : ℕ) → n < 128 → has u n ≡ true
+      → ((p : Program) → Holds p t → has u n ≡ true → Begun (p .rules) u n e → RowOf (p .rules) u n (joined hi lo))
+      → f ≡ set (set e (2 * n) lo) (2 * n + 1) hi → Rowing e n → Rowing f (n + 1)
+  rowing-more e f n lo hi l mine row q =
+      filling-store t e₀ _ _ e f n lo hi l q (λ p holds room begun.
+      begun-more e n lo hi room (p .rules) u begun (row p holds mine begun))
+
+  pub rowing-all : (e : List ℕ) (n : ℕ) → u < 2 ^ 128 → 128 ≤ n → Rowing e n
       → length e₀ ≡ 256 → (p : Program) → Holds p t → Excluded (p .rules) u e
-  filling-all e n below l w z p holds = rows-all (p .rules) u n e below l (w .rows z p holds)
+  rowing-all e n below l w z p holds = begun-all (p .rules) u n e below l (w .rows z p holds)
 
 -- ---- the literals that have rows
 

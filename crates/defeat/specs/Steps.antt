@@ -1,18 +1,24 @@
 -- What the private steps of the code compute. Assumes nothing.
 use mathlib.Core.Path.{_≡_}
-use mathlib.Core.Bool.{Bool, not, _&&_}
+use mathlib.Core.Bool.{Bool, true, not, _&&_}
 use mathlib.Core.List.{List}
-use Prim.Native.Nat.{ℕ}
+use Prim.Native.Nat.{ℕ, _<_, _≤_}
 use Rattle.lists.specs.Lists.{any}
-use Rattle.literals.specs.Sets.{has, within}
-use Rattle.program.specs.Program.{Rule}
-use Rattle.derivation.specs.Closure.{excludes}
+use Rattle.literals.specs.Sets.{has, insert, within}
+use Rattle.program.specs.Program.{Rule, Π}
+use Rattle.derivation.specs.Closure.{closure, excludes}
 use Rattle.argument.specs.Argument.{maskOf, literalOf}
+use Rattle.defeat.specs.Exclusions.{excludedBy}
 use Rattle.defeat.specs.Tests.{kindOf}
 
 -- s has those literals of u that exclude a
 abbrev pub RowOf : List Rule → ℕ → ℕ → ℕ → Type 0
 RowOf rules u a s = (b : ℕ) → has s b ≡ (has u b && excludes rules a b)
+
+-- of the literals of u, those below n have their rows, the others what each alone derives
+pub record Begun (rules : List Rule) (u n : ℕ) (e : List ℕ) : Type 0 where
+  pub rows : (a : ℕ) → a < n → has u a ≡ true → RowOf rules u a (excludedBy e a)
+  pub derived : (a : ℕ) → n ≤ a → has u a ≡ true → excludedBy e a ≡ closure (Π rules) (insert 0 a)
 
 -- z is a sub-argument of one with the mask m, and its literal is in s
 abbrev pub attackedBy : ℕ → ℕ → ℕ → Bool

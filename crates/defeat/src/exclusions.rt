@@ -1,15 +1,15 @@
 // The exclusion table: for each literal of a set, those of the set that exclude it.
 ghost use mathlib.Core.Path.{_≡_};
-ghost use mathlib.Core.Bool.{_&&_};
+ghost use mathlib.Core.Bool.{true, _&&_};
 ghost use Prim.Native.Nat.{_+_, _*_, _<_, _≤_};
 ghost use lib.ListN.{length, take, set};
-ghost use Rattle.literals.specs.Sets.{has, insert, clash};
+ghost use Rattle.literals.specs.Sets.{has, union, clash};
 ghost use Rattle.literals.specs.Words.{setOf};
 ghost use Rattle.program.specs.Program.{Program, Π};
 ghost use Rattle.program.specs.Table.{Holds, Shaped};
-ghost use Rattle.derivation.specs.Closure.{closure};
+ghost use Rattle.derivation.specs.Closure.{closure, excludes};
 ghost use Rattle.defeat.specs.Exclusions.{excludedBy, Excluded, Conclusions};
-ghost use Rattle.defeat.specs.Steps.{RowOf};
+ghost use Rattle.defeat.specs.Steps.{RowOf, Begun};
 use argument::numbers;
 use literals::LiteralSet;
 use program::RuleTable;
@@ -32,19 +32,21 @@ pub fn conclusions(arguments: &[u32], count: usize) -> LiteralSet
     found
 }
 
-// Fills the rows of the literals of u.
+// Fills the rows of the literals of u. At first each has what its literal alone derives; then, ascending, they get those
+// that exclude it. The rows before one's own are done, and exclusion goes both ways: what they say of it is read there.
 pub fn fill(table: &RuleTable, u: LiteralSet, exclusions: &mut [u64; 256])
     requires { ⌜ Shaped (now table) ⌝ }
     ensures { λ _. ⌜ (length (now (exclusions .entry)) ≡ 256 → (p : Program) → Holds p (now (table .entry))
         → Excluded (p .rules) (setOf u) (now (exclusions .exit))) ⌝ }
 {
+    derive_each(table, u, exclusions);
     let mut a: u64 = 0;
     while a < 128 {
         if !u.has(a) {
             a += 1;
             continue;
         }
-        let excluded = row(table, u, a);
+        let excluded = row(table, u, exclusions, a);
         store(exclusions, a, excluded);
         a += 1;
     }
@@ -59,17 +61,37 @@ pub fn entry(exclusions: &[u64; 256], literal: u64) -> LiteralSet
     LiteralSet::of_words(exclusions[at], exclusions[at + 1])
 }
 
-// The literals of u that exclude a. What a alone derives is the start for all of them.
-fn row(table: &RuleTable, u: LiteralSet, a: u64) -> LiteralSet
+// The row of each literal of u becomes what the literal alone derives.
+fn derive_each(table: &RuleTable, u: LiteralSet, exclusions: &mut [u64; 256])
+    requires { ⌜ Shaped (now table) ⌝ }
+    ensures { λ _. ⌜ length (now (exclusions .exit)) ≡ length (now (exclusions .entry)) ⌝ }
+    ensures { λ _. ⌜ (length (now (exclusions .entry)) ≡ 256 → (p : Program) → Holds p (now (table .entry))
+        → Begun (p .rules) (setOf u) 0 (now (exclusions .exit))) ⌝ }
+{
+    let mut a: u64 = 0;
+    while a < 128 {
+        if !u.has(a) {
+            a += 1;
+            continue;
+        }
+        let derived = derivation::close(table, 0, LiteralSet::empty().insert(a));
+        store(exclusions, a, derived);
+        a += 1;
+    }
+}
+
+// The literals of u that exclude a.
+fn row(table: &RuleTable, u: LiteralSet, exclusions: &[u64; 256], a: u64) -> LiteralSet
     requires { ⌜ Shaped (now table) ⌝ }
     requires { ⌜ a < 128 ⌝ }
-    ensures { λ r. ⌜ ((p : Program) → Holds p (now (table .entry)) → RowOf (p .rules) (setOf u) a (setOf r)) ⌝ }
+    ensures { λ r. ⌜ ((p : Program) → Holds p (now (table .entry)) → has (setOf u) a ≡ true
+        → Begun (p .rules) (setOf u) a (now (exclusions .entry)) → RowOf (p .rules) (setOf u) a (setOf r)) ⌝ }
 {
-    let derived = derivation::close(table, 0, LiteralSet::empty().insert(a));
+    let derived = entry(exclusions, a);
     let mut found = LiteralSet::empty();
     let mut b: u64 = 0;
     while b < 128 {
-        if !clashes(table, u, derived, b) {
+        if !excluded(table, u, exclusions, derived, a, b) {
             b += 1;
             continue;
         }
@@ -79,17 +101,49 @@ fn row(table: &RuleTable, u: LiteralSet, a: u64) -> LiteralSet
     found
 }
 
-// The literal b is in u, and with it the set derives a contradiction.
-fn clashes(table: &RuleTable, u: LiteralSet, derived: LiteralSet, b: u64) -> bool
+// The literal b is in u and excludes a, which alone derives the given set.
+fn excluded(
+    table: &RuleTable,
+    u: LiteralSet,
+    exclusions: &[u64; 256],
+    derived: LiteralSet,
+    a: u64,
+    b: u64,
+) -> bool
     requires { ⌜ Shaped (now table) ⌝ }
-    requires { ⌜ b < 128 ⌝ }
-    ensures { λ r. ⌜ ((p : Program) → Holds p (now (table .entry))
-        → r ≡ (has (setOf u) b && clash (closure (Π (p .rules)) (insert (setOf derived) b)))) ⌝ }
+    requires { ⌜ (a < 128) × (b < 128) ⌝ }
+    ensures { λ r. ⌜ ((p : Program) → Holds p (now (table .entry)) → has (setOf u) a ≡ true
+        → Begun (p .rules) (setOf u) a (now (exclusions .entry)) → setOf derived ≡ excludedBy (now (exclusions .entry)) a
+        → r ≡ (has (setOf u) b && excludes (p .rules) a b)) ⌝ }
 {
     if !u.has(b) {
         return false;
     }
-    derivation::close(table, 0, derived.insert(b)).contradictory()
+    let other = entry(exclusions, b);
+    if b < a {
+        return other.has(a);
+    }
+    clash_together(table, derived, other)
+}
+
+// Two closed sets together derive a contradiction. Where one has the other, they derive nothing more.
+fn clash_together(table: &RuleTable, x: LiteralSet, y: LiteralSet) -> bool
+    requires { ⌜ Shaped (now table) ⌝ }
+    ensures { λ r. ⌜ ((p : Program) → Holds p (now (table .entry))
+        → closure (Π (p .rules)) (setOf x) ≡ setOf x → closure (Π (p .rules)) (setOf y) ≡ setOf y
+        → r ≡ clash (closure (Π (p .rules)) (union (setOf x) (setOf y)))) ⌝ }
+{
+    let both = x.union(y);
+    if both.contradictory() {
+        return true;
+    }
+    if both.same(x) {
+        return false;
+    }
+    if both.same(y) {
+        return false;
+    }
+    derivation::close(table, 0, both).contradictory()
 }
 
 // Writes the row of a literal.

@@ -1,23 +1,26 @@
--- `exclusions::fill` meets its contract: the literals that are passed have their rows. Assumes nothing.
+-- `exclusions::fill` meets its contract: the literals that are passed have their rows, the others what they derive.
 use mathlib.Core.Path.{sym, _∙_}
 use Prim.Native.Nat.{_-_}
 use native.Mathlib.Omega.{arith}
-use borrow.Author.Tests.{not-true}
-use borrow.Author.Needs.{needs}
+use borrow.Author.Tests.{not-true, not-false}
 use Rattle.literals.specs.Words.{setOf}
 use Rattle.literals.proofs.Words.{joined-below}
-use Rattle.defeat.proofs.Rows.{Filling, filling-none, filling-skip, filling-more, filling-all}
+use Rattle.defeat.proofs.Rows.{Rowing, rowing-none, rowing-skip, rowing-more, rowing-all}
+use borrow.Author.Needs.{needs}
 use Rattle.defeat.proofs.exclusions.fill.Statement.{statement}
 use Rattle.defeat.proofs.exclusions.fill.Tie as tie
 
 abbrev Inv-loop : tie.InvT-loop
-Inv-loop table u exclusions₀ a₀ exclusions a = Filling table (setOf u) exclusions₀ exclusions a
+Inv-loop table u exclusions₀ a₀ exclusions a = Rowing table (setOf u) exclusions₀ exclusions a
 
 abbrev μ-loop : tie.MeasureT-loop
 μ-loop table u exclusions₀ a₀ exclusions a = 128 - a
 
+derive-each-requires : tie.Need-derive-each-requires Inv-loop μ-loop
+derive-each-requires c κs = search needs
+
 loop-holds : tie.Need-loop-holds Inv-loop μ-loop
-loop-holds c = filling-none _ _ _
+loop-holds c = rowing-none _ _ _ _ (c .derive-each .ensures .0) (c .derive-each .ensures .1)
 
 has-requires : tie.Need-has-requires Inv-loop μ-loop
 has-requires c κs = search needs
@@ -29,9 +32,7 @@ loop-less : tie.Need-loop-less Inv-loop μ-loop
 loop-less c = search needs
 
 loop-again : tie.Need-loop-again Inv-loop μ-loop
-loop-again c =
-    let l = c .before .before .before in
-    filling-skip _ _ _ _ (l .loop .a) (sym (c .before .has .ensures) ∙ not-true _ (c .if1 .taken)) (l .loop .inv)
+loop-again c = rowing-skip _ _ _ _ (c .before .before .before .loop .a) (sym (c .before .has .ensures) ∙ not-true _ (c .if1 .taken)) (c .before .before .before .loop .inv)
 
 row-requires : tie.Need-row-requires Inv-loop μ-loop
 row-requires c κs = search needs
@@ -48,16 +49,15 @@ loop-less-2 c = search needs
 loop-again-2 : tie.Need-loop-again-2 Inv-loop μ-loop
 unfolding setOf
 loop-again-2 c =
-    let l = c .before .before .before .before .before .before in
-    filling-more _ _ _ _ _ (l .loop .a) _ _ (omega arith) (c .before .before .row .ensures) (c .store .ensures)
-    (l .loop .inv)
+    rowing-more _ _ _ _ _ (c .before .before .before .before .before .before .before .loop .a) _ _ (omega arith) (sym (c .before .before .before .before .before .has .ensures) ∙ not-false _ (c .before .before .before .before .if1 .left)) (c .before .before .row .ensures)
+    (c .store .ensures) (c .before .before .before .before .before .before .before .loop .inv)
 
 returns : tie.Need-returns Inv-loop μ-loop
 unfolding setOf
-returns c =
-    let u = c .before .before .args .u in
+returns c z =
+    let u = c .before .before .before .before .args .u in
     let below = joined-below (u .hi) (u .lo) (search needs) (search needs) in
-    filling-all _ _ _ _ (c .before .loop .a) below (c .loop-test .left) (c .before .loop .inv)
+    rowing-all _ _ _ _ (c .before .loop .a) below (c .loop-test .left) (c .before .loop .inv) (c .before .before .derive-each .ensures .0 ∙ z)
 
 pub fill-spec : {M : Type 1} → statement M
 fill-spec =
@@ -65,6 +65,7 @@ fill-spec =
     (tie.spec
     Inv-loop
     μ-loop
+    derive-each-requires
     loop-holds
     has-requires
     add-a
