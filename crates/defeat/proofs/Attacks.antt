@@ -181,9 +181,14 @@ module _ {p : Program} {u : ℕ} {table closures exclusions arguments : List ℕ
         (sym (strict-apart p (ready .limits) x z l lx lz)
         ∙ and-right (within (maskOf z) (maskOf y)) (excludes (p .rules) (literalOf x) (literalOf z)) q))))
 
-    pub kind-apart : 128 ≤ x → meets (excludedBy exclusions (literalOf x)) (closureAt closures (maskOf y)) ≡ false
+    -- where the two do not meet x is no defeater: with an empty mask it is none, whatever stands in the row
+    pub kind-apart : meets (excludedBy exclusions (literalOf x)) (closureAt closures (maskOf y)) ≡ false
         → kind (testsOf p preferred) x y ≡ 0
-    kind-apart h e = among ∙ among-none attacks over under list (sym (attacked-meets h) ∙ e)
+    kind-apart e = go (decLt x 128)
+      where
+        go : Dec (x < 128) → kind (testsOf p preferred) x y ≡ 0
+        go (yes l) = kind-strict l
+        go (no n) = among ∙ among-none attacks over under list (sym (attacked-meets (omega arith)) ∙ e)
 
     pub kind-weighed : 128 ≤ x
         → kindAmong (attackedBy (excludedBy exclusions (literalOf x)) (maskOf y)) over under list

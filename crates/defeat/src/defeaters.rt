@@ -1,6 +1,7 @@
-// The kind of one argument as a defeater of another, by the closure table and the exclusion table.
+// Whether one argument attacks another, and its kind as a defeater, by the closure table and the exclusion table.
 ghost use mathlib.Core.Path.{_≡_};
-ghost use mathlib.Core.List.{List·Memᴰ};
+ghost use mathlib.Core.Bool.{false};
+ghost use mathlib.Core.List.{List, List·Memᴰ};
 ghost use Prim.Native.Nat.{ℕ, _+_, _*_, _^_, _<_};
 ghost use lib.ListN.{length, take};
 ghost use Rattle.literals.specs.Words.{setOf};
@@ -22,11 +23,22 @@ use literals::LiteralSet;
 use literals::masks;
 use program::RuleTable;
 
-// The kind of x as a defeater of y: 1 proper, 2 blocking, 0 none. An argument with an empty mask attacks nothing, and
-// where no literal that y's mask derives is excluded, no sub-argument is attacked.
+// The literal of x excludes one that the mask of y derives. Where it does not, no sub-argument of y is attacked.
+pub fn attacks(closures: &[u64], exclusions: &[u64; 256], x: u32, y: u32) -> bool
+    requires { ⌜ (y < 2 ^ 23) × (2 * maskOf y + 1 < length (now closures)) ⌝ }
+    ensures { λ r. ⌜ ((p : Program) (u count : ℕ) (table arguments : List ℕ)
+        → Ready p u table (now (closures .entry)) (now (exclusions .entry)) arguments count
+        → List·Memᴰ x (argumentList (p .rules)) → List·Memᴰ y (argumentList (p .rules))
+        → r ≡ false → kindBy (testsOf p (preferredTest p)) x y ≡ 0) ⌝ }
+{
+    let excluded = exclusions::entry(exclusions, numbers::literal_of(x));
+    excluded.meets(closures::entry(closures, numbers::mask_of(y)))
+}
+
+// The kind of x as a defeater of y: 1 proper, 2 blocking, 0 none. An argument with an empty mask attacks nothing. It
+// walks the list, so ask `attacks` first.
 pub fn kind(
     table: &RuleTable,
-    closures: &[u64],
     exclusions: &[u64; 256],
     arguments: &[u32],
     count: usize,
@@ -34,21 +46,24 @@ pub fn kind(
     y: u32,
 ) -> u8
     requires { ⌜ Numbers (now arguments) count ⌝ }
-    requires { ⌜ (x < 2 ^ 23) × (y < 2 ^ 23) × (2 * maskOf y + 1 < length (now closures)) ⌝ }
-    ensures { λ r. ⌜ ((p : Program) (u : ℕ)
-        → Ready p u (now (table .entry)) (now (closures .entry)) (now (exclusions .entry)) (now (arguments .entry)) count
+    requires { ⌜ (x < 2 ^ 23) × (y < 2 ^ 23) ⌝ }
+    ensures { λ r. ⌜ ((p : Program) (u : ℕ) (closures : List ℕ)
+        → Ready p u (now (table .entry)) closures (now (exclusions .entry)) (now (arguments .entry)) count
         → List·Memᴰ x (argumentList (p .rules)) → List·Memᴰ y (argumentList (p .rules))
         → r ≡ kindBy (testsOf p (preferredTest p)) x y) ⌝ }
 {
     if x < 128 {
         return 0;
     }
-    let mask = numbers::mask_of(y);
-    let excluded = exclusions::entry(exclusions, numbers::literal_of(x));
-    if !excluded.meets(closures::entry(closures, mask)) {
-        return 0;
-    }
-    weigh(table, arguments, count, excluded, numbers::mask_of(x), mask)
+    let row = exclusions::entry(exclusions, numbers::literal_of(x));
+    weigh(
+        table,
+        arguments,
+        count,
+        row,
+        numbers::mask_of(x),
+        numbers::mask_of(y),
+    )
 }
 
 // The kind of an argument with the mask x as a defeater of one with the mask y, where its literal excludes those of a set.

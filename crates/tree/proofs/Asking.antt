@@ -20,7 +20,7 @@ use Rattle.tree.specs.Steps.{lineOf, masksOf, Prepared, testsIn, Asked}
 use Rattle.tree.proofs.Line.{sides-within}
 use Rattle.tree.proofs.Steps.{line-last, listed-in}
 use Rattle.tree.proofs.Listings.{prepared-mask, prepared-entry, prepared-small}
-use Rattle.tree.proofs.Sides.{masks-below, side-concordant, reply-discordant, reply-used, reply-free}
+use Rattle.tree.proofs.Sides.{masks-below, side-concordant, reply-apart, reply-discordant, reply-used, reply-free}
 
 module _ {table closures exclusions arguments : List ℕ} {count : ℕ} {line : List ℕ} {depth side last : ℕ}
     (A : Asked table closures exclusions arguments count line depth side last) (j : ℕ) (inside : j < count) where
@@ -61,21 +61,36 @@ module _ {table closures exclusions arguments : List ℕ} {count : ℕ} {line : 
   pub asking-entry : (m : ℕ) → m ≡ maskOf x → (union side m < 65536) × (2 * union side m + 1 < length closures)
   asking-entry m e = rw (e, side-is) (prepared-entry (A .prepared) (masksOf (x ∷ theirs (y ∷ l))) (side-below (A .prepared)))
 
-  -- what the test of defeat asks
+  -- what the tests of attack and defeat ask
   pub asking-numbers : Numbers arguments count
   asking-numbers = record {
     enough = A .prepared .counted;
     small = λ i h. prepared-small (A .prepared) (getD arguments i 0) (listed-in arguments count i h (A .prepared .counted));
   }
 
-  pub asking-kind : (x < 2 ^ 23) × (y < 2 ^ 23) × (2 * maskOf y + 1 < length closures)
-  asking-kind =
+  asking-listed : (z : ℕ) → List·Memᴰ z (take count arguments) → (z < 2 ^ 23) × (2 * maskOf z + 1 < length closures)
+  asking-listed z i =
       let w = A .prepared in
-      (prepared-small w x x-in, prepared-small w y y-in, prepared-entry w (maskOf y) (prepared-mask w y y-in) .1)
+      (prepared-small w z i, prepared-entry w (maskOf z) (prepared-mask w z i) .1)
+
+  pub asking-x : (x < 2 ^ 23) × (2 * maskOf x + 1 < length closures)
+  asking-x = asking-listed x x-in
+
+  pub asking-y : (y < 2 ^ 23) × (2 * maskOf y + 1 < length closures)
+  asking-y = asking-listed y y-in
 
   -- ---- the answers
 
   module _ (w : World) where
+    abbrev all : List ℕ
+    all = argumentList (w .program .rules)
+
+    pub asking-apart : (List·Memᴰ x all → List·Memᴰ y all → kind (testsIn w) x y ≡ 0)
+        → 0 ≡ replyKind (testsIn w) (lineOf line depth) x
+    asking-apart none =
+        rw line-is
+        (sym (reply-apart (testsIn w) y x l (none (rw (w .made .listed) at x-in) (rw (w .made .listed) at y-in))))
+
     concordant-is : testsIn w .concordant (x ∷ theirs (y ∷ l)) ≡ not (clash (closureAt closures (union side (maskOf x))))
     concordant-is =
         side-concordant (w .program) (preferredTest (w .program)) closures (x ∷ theirs (y ∷ l)) (w .made .filled) (side-below w)
@@ -100,7 +115,7 @@ module _ {table closures exclusions arguments : List ℕ} {count : ℕ} {line : 
         asking-used e = rw line-is (sym (reply-used (testsIn w) y x l (used-by ∙ e)))
 
         pub asking-free : clashes ≡ false → met ≡ false → (k r : ℕ)
-            → (List·Memᴰ x (argumentList (w .program .rules)) → List·Memᴰ y (argumentList (w .program .rules)) → k ≡ kind (testsIn w) x y)
+            → (List·Memᴰ x all → List·Memᴰ y all → k ≡ kind (testsIn w) x y)
             → r ≡ permit k (not (eqb last 2) || eqb k 1) → r ≡ replyKind (testsIn w) (lineOf line depth) x
         asking-free c u k r k-is r-is =
             r-is

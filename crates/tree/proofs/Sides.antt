@@ -97,6 +97,10 @@ module _ (t : Tests ℕ) (x y : ℕ) (l : List ℕ) where
   and-false true = refl
   and-false false = refl
 
+  pub reply-apart : kind t y x ≡ 0 → replyKind t (x ∷ l) y ≡ 0
+  unfolding replyKind
+  reply-apart e = ap (λ (k : ℕ). permit k (joins t (x ∷ l) y)) e
+
   pub reply-discordant : t .concordant (y ∷ theirs (x ∷ l)) ≡ false → replyKind t (x ∷ l) y ≡ 0
   unfolding replyKind joins
   reply-discordant e = rw (e, and-false, and-false) (permit-none (kind t y x))

@@ -1,6 +1,7 @@
--- The tests in turn: of the candidate's side, of the line, of defeat, of the rule on blocking defeaters.
-use borrow.Author.Needs.{needs}
-use Rattle.tree.proofs.Asking.{asking-entry, asking-numbers, asking-kind, asking-discordant, asking-used, asking-free}
+-- The tests in turn: of attack, of the candidate's side, of the line, of defeat, of the rule on blocking defeaters.
+use borrow.Author.Tests.{not-true}
+use Rattle.tree.proofs.Asking.{asking-entry, asking-numbers, asking-x, asking-y, asking-apart, asking-discordant, asking-used, asking-free}
+use native.Mathlib.Omega.{arith}
 use borrow.Author.Needs.{needs}
 use Rattle.tree.proofs.candidates.reply_kind.Statement.{statement}
 use Rattle.tree.proofs.candidates.reply_kind.Tie as tie
@@ -11,31 +12,6 @@ mul-x c = search needs
 shared-slice-read-x : tie.Need-shared-slice-read-x
 shared-slice-read-x c = search needs
 
-mask-of-requires : tie.Need-mask-of-requires
-mask-of-requires c κs = search needs
-
-contradictory-requires : tie.Need-contradictory-requires
-contradictory-requires c κs = asking-entry (c .before .before .before .before .before .pre .0) (c .before .before .before .before .before .args .j) (c .before .before .before .before .before .pre .1) (c .mask-of .result) (c .mask-of .ensures)
-
-returns : tie.Need-returns
-returns c =
-    let s = c .before .before .before .before .before .before .before in
-    let m = c .before .before .mask-of in
-    let k = c .before .contradictory in
-    λ w. asking-discordant (s .pre .0) (s .args .j) (s .pre .1) w (m .result) (m .ensures) (k .result) (k .ensures) (c .if1 .taken)
-
-used-requires : tie.Need-used-requires
-used-requires c κs = c .before .before .before .before .before .before .before .pre .0 .line-holds
-
-returns-2 : tie.Need-returns-2
-returns-2 c =
-    let s = c .before .before .before .before .before .before .before .before .before in
-    let m = c .before .before .before .before .mask-of in
-    let k = c .before .before .before .contradictory in
-    let u = c .before .used in
-    λ w. asking-used (s .pre .0) (s .args .j) (s .pre .1) w (m .result) (m .ensures) (k .result) (k .ensures) (u .result) (u .ensures)
-    (c .if2 .taken)
-
 sub-y : tie.Need-sub-y
 sub-y c = search needs
 
@@ -45,22 +21,69 @@ mul-y c = search needs
 shared-slice-read-y : tie.Need-shared-slice-read-y
 shared-slice-read-y c = search needs
 
-kind-requires : tie.Need-kind-requires
-kind-requires c κs = (asking-numbers (c .before .before .before .before .before .before .before .before .before .before .pre .0) (c .before .before .before .before .before .before .before .before .before .before .args .j) (c .before .before .before .before .before .before .before .before .before .before .pre .1), asking-kind (c .before .before .before .before .before .before .before .before .before .before .pre .0) (c .before .before .before .before .before .before .before .before .before .before .args .j) (c .before .before .before .before .before .before .before .before .before .before .pre .1))
+attacks-requires : tie.Need-attacks-requires
+attacks-requires c κs =
+    let s = c .before .before .before .before .before in
+    let x = asking-x (s .pre .0) (s .args .j) (s .pre .1) in
+    let y = asking-y (s .pre .0) (s .args .j) (s .pre .1) in
+    (omega arith, omega arith)
 
-follow-requires : tie.Need-follow-requires
-follow-requires c κs = search needs
+returns : tie.Need-returns
+returns c =
+    let s = c .before .before .before .before .before .before .before in
+    let a = s .args in
+    λ w. asking-apart (s .pre .0) (a .j) (s .pre .1) w (λ lx ly.
+    c .before .attacks .ensures (w .program) (w .conclusions) (a .count) (a .table .now) (a .arguments .now) (w .made) lx ly
+    (not-true _ (c .if1 .taken)))
+
+mask-of-requires : tie.Need-mask-of-requires
+mask-of-requires c κs = search needs
+
+contradictory-requires : tie.Need-contradictory-requires
+contradictory-requires c κs =
+    let s = c .before .before .before .before .before .before .before .before in
+    asking-entry (s .pre .0) (s .args .j) (s .pre .1) (c .mask-of .result) (c .mask-of .ensures)
+
+returns-2 : tie.Need-returns-2
+returns-2 c =
+    let s = c .before .before .before .before .before .before .before .before .before .before in
+    let m = c .before .before .mask-of in
+    let k = c .before .contradictory in
+    λ w. asking-discordant (s .pre .0) (s .args .j) (s .pre .1) w (m .result) (m .ensures) (k .result) (k .ensures)
+    (c .if2 .taken)
+
+used-requires : tie.Need-used-requires
+used-requires c κs = search needs
 
 returns-3 : tie.Need-returns-3
 returns-3 c =
     let s = c .before .before .before .before .before .before .before .before .before .before .before .before in
-    let m = c .before .before .before .before .before .before .before .mask-of in
-    let k = c .before .before .before .before .before .before .contradictory in
-    let u = c .before .before .before .before .used in
+    let m = c .before .before .before .before .mask-of in
+    let k = c .before .before .before .contradictory in
+    let u = c .before .used in
+    λ w. asking-used (s .pre .0) (s .args .j) (s .pre .1) w (m .result) (m .ensures) (k .result) (k .ensures) (u .result)
+    (u .ensures) (c .if3 .taken)
+
+kind-requires : tie.Need-kind-requires
+kind-requires c κs =
+    let s = c .before .before .before .before .before .before .before .before .before .before .before .before in
+    let x = asking-x (s .pre .0) (s .args .j) (s .pre .1) in
+    let y = asking-y (s .pre .0) (s .args .j) (s .pre .1) in
+    (asking-numbers (s .pre .0) (s .args .j) (s .pre .1), (x .0, y .0))
+
+follow-requires : tie.Need-follow-requires
+follow-requires c κs = search needs
+
+returns-4 : tie.Need-returns-4
+returns-4 c =
+    let s = c .before .before .before .before .before .before .before .before .before .before .before .before .before .before in
+    let m = c .before .before .before .before .before .before .mask-of in
+    let k = c .before .before .before .before .before .contradictory in
+    let u = c .before .before .before .used in
     let d = c .before .kind in
-    λ w. asking-free (s .pre .0) (s .args .j) (s .pre .1) w (m .result) (m .ensures) (k .result) (k .ensures) (u .result) (u .ensures)
-    (c .before .before .before .before .before .if1 .left) (c .before .before .before .if2 .left) (d .result) (c .follow .result) (d .ensures (w .program) (w .conclusions) (w .made))
-    (c .follow .ensures)
+    λ w. asking-free (s .pre .0) (s .args .j) (s .pre .1) w (m .result) (m .ensures) (k .result) (k .ensures) (u .result)
+    (u .ensures) (c .before .before .before .before .if2 .left) (c .before .before .if3 .left) (d .result) (c .follow .result)
+    (d .ensures (w .program) (w .conclusions) (s .args .closures .now) (w .made)) (c .follow .ensures)
 
 pub reply-kind-spec : {M : Type 1} → statement M
 reply-kind-spec =
@@ -68,14 +91,16 @@ reply-kind-spec =
     (tie.spec
     mul-x
     shared-slice-read-x
-    mask-of-requires
-    contradictory-requires
-    returns
-    used-requires
-    returns-2
     sub-y
     mul-y
     shared-slice-read-y
+    attacks-requires
+    returns
+    mask-of-requires
+    contradictory-requires
+    returns-2
+    used-requires
+    returns-3
     kind-requires
     follow-requires
-    returns-3)
+    returns-4)

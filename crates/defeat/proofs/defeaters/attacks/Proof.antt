@@ -1,0 +1,45 @@
+-- `defeaters::attacks` meets its contract: the two entries are the row of x's literal and what y's mask derives.
+-- Assumes nothing.
+use mathlib.Core.Path.{sym, ap, ap₂, _∙_}
+use Rattle.literals.specs.Sets.{meets}
+use Rattle.argument.specs.Closures.{closureAt}
+use Rattle.defeat.specs.Preference.{preferredTest}
+use Rattle.defeat.specs.Exclusions.{excludedBy}
+use Rattle.defeat.proofs.Attacks.{kind-apart}
+use borrow.Author.Needs.{needs}
+use Rattle.defeat.proofs.defeaters.attacks.Statement.{statement}
+use Rattle.defeat.proofs.defeaters.attacks.Tie as tie
+
+literal-of-requires : tie.Need-literal-of-requires
+literal-of-requires c κs = search needs
+
+entry-requires : tie.Need-entry-requires
+entry-requires c κs = search needs
+
+mask-of-requires : tie.Need-mask-of-requires
+mask-of-requires c κs = search needs
+
+entry-requires-2 : tie.Need-entry-requires-2
+entry-requires-2 c κs = search needs
+
+meets-requires : tie.Need-meets-requires
+meets-requires c κs = search needs
+
+returns : tie.Need-returns
+returns c p u count table arguments ready lx ly unmet =
+    let e = c .before .before .before in
+    let a = e .before .before .before .args in
+    let row = e .entry .ensures ∙ ap (excludedBy (a .exclusions .now)) (e .before .literal-of .ensures .0) in
+    let derived = c .before .entry2 .ensures ∙ ap (closureAt (a .closures .now)) (c .before .before .mask-of .ensures) in
+    kind-apart ready _ _ lx ly (preferredTest p) (sym (ap₂ meets row derived) ∙ sym (c .meets .ensures) ∙ unmet)
+
+pub attacks-spec : {M : Type 1} → statement M
+attacks-spec =
+    tie.close
+    (tie.spec
+    literal-of-requires
+    entry-requires
+    mask-of-requires
+    entry-requires-2
+    meets-requires
+    returns)
