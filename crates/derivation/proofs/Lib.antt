@@ -5,4 +5,6 @@ pub mod Chains
 pub mod Contradictions
 pub mod Choices
 pub mod Tables
+pub mod Parts
 mod Turns
+mod Joints

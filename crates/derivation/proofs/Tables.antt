@@ -27,7 +27,7 @@ need-chosen defeasible b mask =
     (λ h. each-within (2 ^ b) mask (λ k e. ap (has mask) (bit-power-only b k (has-bit (2 ^ b) k e)) ∙ h))
 
 -- what holds of each row holds of each rule
-each-rule : (P : Rule → Type 0) (l : List Rule) → ((i : ℕ) → i < length l → P (ruleAt l i)) → (r : Rule) → List·Memᴰ r l → P r
+pub each-rule : (P : Rule → Type 0) (l : List Rule) → ((i : ℕ) → i < length l → P (ruleAt l i)) → (r : Rule) → List·Memᴰ r l → P r
 each-rule P [] f r d = absurd (List·Memᴰ·not-nil d)
 each-rule P (q ∷ l) f r d =
     ⊎-elim (λ e. subst P (sym e) (f 0 (omega arith))) (each-rule P l (λ i h. f (suc i) (omega arith)) r) (List·Memᴰ·cases-cons d)

@@ -2,3 +2,4 @@
 pub mod Derivation
 pub mod Closure
 pub mod Steps
+pub mod Parts
