@@ -20,7 +20,10 @@ use Rattle.literals.proofs.Clashes.{clash-mono}
 use Rattle.program.specs.Program.{Rule, Program, Π-mask, Π}
 use Rattle.program.specs.Table.{Holds}
 use Rattle.derivation.specs.Closure.{closure, excludes}
-use Rattle.derivation.proofs.Closures.{closure-contains, closure-mono, closure-cut, closure-idempotent}
+use Rattle.derivation.specs.Parts.{StrictOf, Parted}
+use Rattle.derivation.proofs.Closures.{closure-contains, closure-closed, closure-mono, closure-cut, closure-idempotent}
+use Rattle.derivation.proofs.Rounds.{Closed}
+use Rattle.derivation.proofs.Parts.{parted-closed, parted-union}
 use Rattle.derivation.proofs.Choices.{Π-mask-empty}
 use Rattle.derivation.proofs.Contradictions.{excludes-sym}
 use Rattle.argument.specs.Argument.{literalOf}
@@ -67,8 +70,16 @@ module _ (rules : List Rule) (x y : ℕ) where
     together-same z e closed c =
         sym (ap (λ (s : ℕ). clash (closure (Π rules) s)) (sym is ∙ e) ∙ ap clash (closed ∙ sym e) ∙ c)
 
-    pub together-closed : (c : ℕ) (r : Bool) → c ≡ closure (Π-mask 0 rules) both → r ≡ clash c → r ≡ together
-    together-closed c r ec er = er ∙ ap clash (ec ∙ ap₂ closure (Π-mask-empty rules) is)
+    -- both are closed, so that only a joint rule may add to the two
+    pub together-parted : (d j : ℕ) → StrictOf rules d j → closure (Π rules) x ≡ x → closure (Π rules) y ≡ y → Parted rules j both
+    together-parted d j strict cx cy =
+        rw is (parted-union rules d j strict x y (parted-closed rules j x (closed-set x cx)) (parted-closed rules j y (closed-set y cy)))
+      where
+        closed-set : (z : ℕ) → closure (Π rules) z ≡ z → Closed (Π rules) z
+        closed-set z e = subst (Closed (Π rules)) e (closure-closed (Π rules) z)
+
+    pub together-settled : (c : ℕ) (r : Bool) → c ≡ closure (Π rules) both → r ≡ clash c → r ≡ together
+    together-settled c r ec er = er ∙ ap clash (ec ∙ ap (closure (Π rules)) is)
 
 -- the literals of u that exclude a
 abbrev pub rowTest : List Rule → ℕ → ℕ → ℕ → Bool
@@ -193,6 +204,17 @@ begun-skip rules u n e h begun = record {
 abbrev pub Alone : List Rule → ℕ → ℕ → Type 0
 Alone rules a s = s ≡ closure (Π rules) (insert 0 a)
 
+-- what Π derives may be given with it
+alone-from : (rules : List Rule) (d a s : ℕ) → d ≡ closure (Π rules) 0 → s ≡ closure (Π rules) (insert d a) → Alone rules a s
+alone-from rules d a s e q =
+    q ∙ closure-cut (Π rules) one (insert d a) (insert-within 0 a (insert d a) (within-empty (insert d a)) (has-insert-same d a))
+    (insert-within d a (closure (Π rules) one)
+    (rw e (closure-mono (Π rules) (Π rules) (λ r i. i) 0 one (within-empty one)))
+    (within-each one (closure (Π rules) one) (closure-contains (Π rules) one) a (has-insert-same 0 a)))
+  where
+    one : ℕ
+    one = insert 0 a
+
 begun-none : (rules : List Rule) (u n : ℕ) (e : List ℕ) → u < 2 ^ 128 → 128 ≤ n → RowsTo (Alone rules) u n e → Begun rules u 0 e
 begun-none rules u n e below l rows = record {
   rows = rows-none (RowOf rules u) u e;
@@ -226,44 +248,49 @@ module _ (t e₀ : List ℕ) (P Q : Program → List ℕ → Type 0) where
   })
 
 module _ (t : List ℕ) (u : ℕ) (e₀ : List ℕ) where
-  -- what each of the first n literals alone derives
-  abbrev pub Deriving : List ℕ → ℕ → Type 0
-  Deriving e n = Filling t e₀ e (λ p e. RowsTo (Alone (p .rules)) u n e)
+  module _ (d j : ℕ) where
+    -- what each of the first n literals alone derives
+    abbrev pub Deriving : List ℕ → ℕ → Type 0
+    Deriving e n = Filling t e₀ e (λ p e. StrictOf (p .rules) d j → RowsTo (Alone (p .rules)) u n e)
 
-  pub deriving-none : Deriving e₀ 0
-  deriving-none = record { kept = refl; rows = λ z p holds. rows-none (Alone (p .rules)) u e₀ }
+    pub deriving-none : Deriving e₀ 0
+    deriving-none = record { kept = refl; rows = λ z p holds strict. rows-none (Alone (p .rules)) u e₀ }
 
-  pub deriving-skip : (e : List ℕ) (n : ℕ) → has u n ≡ false → Deriving e n → Deriving e (n + 1)
-  deriving-skip e n h = filling-map t e₀ _ _ e (λ p. rows-skip (Alone (p .rules)) u n e h)
+    pub deriving-skip : (e : List ℕ) (n : ℕ) → has u n ≡ false → Deriving e n → Deriving e (n + 1)
+    deriving-skip e n h = filling-map t e₀ _ _ e (λ p rows strict. rows-skip (Alone (p .rules)) u n e h (rows strict))
 
-  pub deriving-more : (e f : List ℕ) (n lo hi none one : ℕ) → n < 128 → none ≡ 0 → one ≡ insert none n
-      → ((p : Program) → Holds p t → joined hi lo ≡ closure (Π-mask 0 (p .rules)) one)
-      → f ≡ set (set e (2 * n) lo) (2 * n + 1) hi → Deriving e n → Deriving f (n + 1)
-  deriving-more e f n lo hi none one l z o closed q =
-      filling-store t e₀ _ _ e f n lo hi l q (λ p holds room rows.
-      rows-more e n lo hi room (Alone (p .rules)) u rows
-      (closed p holds ∙ ap₂ closure (Π-mask-empty (p .rules)) (o ∙ ap (λ (s : ℕ). insert s n) z)))
+    pub deriving-more : (e f : List ℕ) (n lo hi one : ℕ) → n < 128 → one ≡ insert d n
+        → ((p : Program) → Holds p t → joined hi lo ≡ closure (Π-mask 0 (p .rules)) one)
+        → f ≡ set (set e (2 * n) lo) (2 * n + 1) hi → Deriving e n → Deriving f (n + 1)
+    deriving-more e f n lo hi one l o closed q =
+        filling-store t e₀ _ _ e f n lo hi l q (λ p holds room rows strict.
+        rows-more e n lo hi room (Alone (p .rules)) u (rows strict)
+        (alone-from (p .rules) d n (joined hi lo) (strict .derived-is)
+        (closed p holds ∙ ap₂ closure (Π-mask-empty (p .rules)) o)))
 
-  pub deriving-all : (e : List ℕ) (n : ℕ) → u < 2 ^ 128 → 128 ≤ n → Deriving e n
-      → length e₀ ≡ 256 → (p : Program) → Holds p t → Begun (p .rules) u 0 e
-  deriving-all e n below l w z p holds = begun-none (p .rules) u n e below l (w .rows z p holds)
+    pub deriving-all : (e : List ℕ) (n : ℕ) → u < 2 ^ 128 → 128 ≤ n → Deriving e n
+        → length e₀ ≡ 256 → (p : Program) → Holds p t → StrictOf (p .rules) d j → Begun (p .rules) u 0 e
+    deriving-all e n below l w z p holds strict = begun-none (p .rules) u n e below l (w .rows z p holds strict)
 
   -- the rows of the first n literals are done
   abbrev pub Rowing : List ℕ → ℕ → Type 0
   Rowing e n = Filling t e₀ e (λ p e. Begun (p .rules) u n e)
 
-  pub rowing-none : (n : ℕ) → length e₀ ≡ n → (n ≡ 256 → (p : Program) → Holds p t → Begun (p .rules) u 0 e₀) → Rowing e₀ 0
-  rowing-none n k w = record { kept = refl; rows = λ z. w (sym k ∙ z) }
+  pub rowing-none : (n d j : ℕ) → length e₀ ≡ n → ((p : Program) → Holds p t → StrictOf (p .rules) d j)
+      → (n ≡ 256 → (p : Program) → Holds p t → StrictOf (p .rules) d j → Begun (p .rules) u 0 e₀) → Rowing e₀ 0
+  rowing-none n d j k strict w = record { kept = refl; rows = λ z p holds. w (sym k ∙ z) p holds (strict p holds) }
 
   pub rowing-skip : (e : List ℕ) (n : ℕ) → has u n ≡ false → Rowing e n → Rowing e (n + 1)
   rowing-skip e n h = filling-map t e₀ _ _ e (λ p. begun-skip (p .rules) u n e h)
 
-  pub rowing-more : (e f : List ℕ) (n lo hi : ℕ) → n < 128 → has u n ≡ true
-      → ((p : Program) → Holds p t → has u n ≡ true → Begun (p .rules) u n e → RowOf (p .rules) u n (joined hi lo))
+  pub rowing-more : (e f : List ℕ) (n lo hi d j : ℕ) → n < 128 → has u n ≡ true
+      → ((p : Program) → Holds p t → StrictOf (p .rules) d j)
+      → ((p : Program) → Holds p t → StrictOf (p .rules) d j → has u n ≡ true → Begun (p .rules) u n e
+      → RowOf (p .rules) u n (joined hi lo))
       → f ≡ set (set e (2 * n) lo) (2 * n + 1) hi → Rowing e n → Rowing f (n + 1)
-  rowing-more e f n lo hi l mine row q =
+  rowing-more e f n lo hi d j l mine strict row q =
       filling-store t e₀ _ _ e f n lo hi l q (λ p holds room begun.
-      begun-more e n lo hi room (p .rules) u begun (row p holds mine begun))
+      begun-more e n lo hi room (p .rules) u begun (row p holds (strict p holds) mine begun))
 
   pub rowing-all : (e : List ℕ) (n : ℕ) → u < 2 ^ 128 → 128 ≤ n → Rowing e n
       → length e₀ ≡ 256 → (p : Program) → Holds p t → Excluded (p .rules) u e

@@ -8,9 +8,11 @@ ghost use Rattle.literals.specs.Words.{setOf};
 ghost use Rattle.program.specs.Program.{Program, Π};
 ghost use Rattle.program.specs.Table.{Holds, Shaped};
 ghost use Rattle.derivation.specs.Closure.{closure, excludes};
+ghost use Rattle.derivation.specs.Parts.{RulesOf, StrictOf};
 ghost use Rattle.defeat.specs.Exclusions.{excludedBy, Excluded, Conclusions};
 ghost use Rattle.defeat.specs.Steps.{RowOf, Begun};
 use argument::numbers;
+use derivation::Strict;
 use literals::LiteralSet;
 use program::RuleTable;
 
@@ -39,14 +41,15 @@ pub fn fill(table: &RuleTable, u: LiteralSet, exclusions: &mut [u64; 256])
     ensures { λ _. ⌜ (length (now (exclusions .entry)) ≡ 256 → (p : Program) → Holds p (now (table .entry))
         → Excluded (p .rules) (setOf u) (now (exclusions .exit))) ⌝ }
 {
-    derive_each(table, u, exclusions);
+    let strict = derivation::strict_part(table);
+    derive_each(table, strict, u, exclusions);
     let mut a: u64 = 0;
     while a < 128 {
         if !u.has(a) {
             a += 1;
             continue;
         }
-        let excluded = row(table, u, exclusions, a);
+        let excluded = row(table, strict, u, exclusions, a);
         store(exclusions, a, excluded);
         a += 1;
     }
@@ -62,10 +65,11 @@ pub fn entry(exclusions: &[u64; 256], literal: u64) -> LiteralSet
 }
 
 // The row of each literal of u becomes what the literal alone derives.
-fn derive_each(table: &RuleTable, u: LiteralSet, exclusions: &mut [u64; 256])
+fn derive_each(table: &RuleTable, strict: Strict, u: LiteralSet, exclusions: &mut [u64; 256])
     requires { ⌜ Shaped (now table) ⌝ }
     ensures { λ _. ⌜ length (now (exclusions .exit)) ≡ length (now (exclusions .entry)) ⌝ }
     ensures { λ _. ⌜ (length (now (exclusions .entry)) ≡ 256 → (p : Program) → Holds p (now (table .entry))
+        → StrictOf (p .rules) (setOf (strict .derived)) (setOf (strict .joint))
         → Begun (p .rules) (setOf u) 0 (now (exclusions .exit))) ⌝ }
 {
     let mut a: u64 = 0;
@@ -74,24 +78,32 @@ fn derive_each(table: &RuleTable, u: LiteralSet, exclusions: &mut [u64; 256])
             a += 1;
             continue;
         }
-        let derived = derivation::close(table, 0, LiteralSet::empty().insert(a));
+        let derived = derivation::close(table, 0, strict.derived.insert(a));
         store(exclusions, a, derived);
         a += 1;
     }
 }
 
 // The literals of u that exclude a.
-fn row(table: &RuleTable, u: LiteralSet, exclusions: &[u64; 256], a: u64) -> LiteralSet
+fn row(
+    table: &RuleTable,
+    strict: Strict,
+    u: LiteralSet,
+    exclusions: &[u64; 256],
+    a: u64,
+) -> LiteralSet
     requires { ⌜ Shaped (now table) ⌝ }
+    requires { ⌜ RulesOf (now table) (setOf (strict .joint)) ⌝ }
     requires { ⌜ a < 128 ⌝ }
-    ensures { λ r. ⌜ ((p : Program) → Holds p (now (table .entry)) → has (setOf u) a ≡ true
+    ensures { λ r. ⌜ ((p : Program) → Holds p (now (table .entry))
+        → StrictOf (p .rules) (setOf (strict .derived)) (setOf (strict .joint)) → has (setOf u) a ≡ true
         → Begun (p .rules) (setOf u) a (now (exclusions .entry)) → RowOf (p .rules) (setOf u) a (setOf r)) ⌝ }
 {
     let derived = entry(exclusions, a);
     let mut found = LiteralSet::empty();
     let mut b: u64 = 0;
     while b < 128 {
-        if !excluded(table, u, exclusions, derived, a, b) {
+        if !excluded(table, strict, u, exclusions, derived, a, b) {
             b += 1;
             continue;
         }
@@ -104,6 +116,7 @@ fn row(table: &RuleTable, u: LiteralSet, exclusions: &[u64; 256], a: u64) -> Lit
 // The literal b is in u and excludes a, which alone derives the given set.
 fn excluded(
     table: &RuleTable,
+    strict: Strict,
     u: LiteralSet,
     exclusions: &[u64; 256],
     derived: LiteralSet,
@@ -111,8 +124,10 @@ fn excluded(
     b: u64,
 ) -> bool
     requires { ⌜ Shaped (now table) ⌝ }
+    requires { ⌜ RulesOf (now table) (setOf (strict .joint)) ⌝ }
     requires { ⌜ (a < 128) × (b < 128) ⌝ }
-    ensures { λ r. ⌜ ((p : Program) → Holds p (now (table .entry)) → has (setOf u) a ≡ true
+    ensures { λ r. ⌜ ((p : Program) → Holds p (now (table .entry))
+        → StrictOf (p .rules) (setOf (strict .derived)) (setOf (strict .joint)) → has (setOf u) a ≡ true
         → Begun (p .rules) (setOf u) a (now (exclusions .entry)) → setOf derived ≡ excludedBy (now (exclusions .entry)) a
         → r ≡ (has (setOf u) b && excludes (p .rules) a b)) ⌝ }
 {
@@ -123,13 +138,15 @@ fn excluded(
     if b < a {
         return other.has(a);
     }
-    clash_together(table, derived, other)
+    clash_together(table, strict, derived, other)
 }
 
 // Two closed sets together derive a contradiction. Where one has the other, they derive nothing more.
-fn clash_together(table: &RuleTable, x: LiteralSet, y: LiteralSet) -> bool
+fn clash_together(table: &RuleTable, strict: Strict, x: LiteralSet, y: LiteralSet) -> bool
     requires { ⌜ Shaped (now table) ⌝ }
+    requires { ⌜ RulesOf (now table) (setOf (strict .joint)) ⌝ }
     ensures { λ r. ⌜ ((p : Program) → Holds p (now (table .entry))
+        → StrictOf (p .rules) (setOf (strict .derived)) (setOf (strict .joint))
         → closure (Π (p .rules)) (setOf x) ≡ setOf x → closure (Π (p .rules)) (setOf y) ≡ setOf y
         → r ≡ clash (closure (Π (p .rules)) (union (setOf x) (setOf y)))) ⌝ }
 {
@@ -143,7 +160,7 @@ fn clash_together(table: &RuleTable, x: LiteralSet, y: LiteralSet) -> bool
     if both.same(y) {
         return false;
     }
-    derivation::close(table, 0, both).contradictory()
+    derivation::settle(table, strict, both).contradictory()
 }
 
 // Writes the row of a literal.

@@ -15,7 +15,7 @@ has-requires : tie.Need-has-requires
 has-requires c κs = search needs
 
 returns : tie.Need-returns
-returns c p holds mine begun derived =
+returns c p holds strict mine begun derived =
     pair-outside (p .rules) (setOf (c .before .before .args .u)) (c .before .before .args .a) (c .before .before .args .b) (sym (c .before .has .ensures) ∙ not-true _ (c .if1 .taken))
 
 entry-requires : tie.Need-entry-requires
@@ -25,7 +25,7 @@ has-requires-2 : tie.Need-has-requires-2
 has-requires-2 c κs = search needs
 
 returns-2 : tie.Need-returns-2
-returns-2 c p holds mine begun derived =
+returns-2 c p holds strict mine begun derived =
     pair-before (p .rules) (setOf (c .before .before .before .before .before .args .u)) (c .before .before .before .before .before .args .a) (c .before .before .before .before .before .args .b) _ (c .before .before .before .before .before .args .exclusions .now) begun (c .before .before .entry .ensures) mine
     (sym (c .before .before .before .before .has .ensures) ∙ not-false _ (c .before .before .before .if1 .left)) (c .before .if2 .taken) _ (c .has2 .ensures)
 
@@ -33,11 +33,11 @@ clash-together-requires : tie.Need-clash-together-requires
 clash-together-requires c κs = search needs
 
 returns-3 : tie.Need-returns-3
-returns-3 c p holds mine begun derived =
+returns-3 c p holds strict mine begun derived =
     let its = sym (c .before .before .before .before .has .ensures) ∙ not-false _ (c .before .before .before .if1 .left) in
     let after = c .before .if2 .left in
     pair-after (p .rules) (setOf (c .before .before .before .before .before .args .u)) (c .before .before .before .before .before .args .a) (c .before .before .before .before .before .args .b) _ (c .before .before .before .before .before .args .exclusions .now) begun (c .before .before .entry .ensures) mine its after _ derived _
-    (c .clash-together .ensures p holds
+    (c .clash-together .ensures p holds strict
     (pair-closed (p .rules) (setOf (c .before .before .before .before .before .args .u)) (c .before .before .before .before .before .args .a) (c .before .before .before .before .before .args .a) _ (c .before .before .before .before .before .args .exclusions .now) begun derived mine mine (le-refl _))
     (pair-closed (p .rules) (setOf (c .before .before .before .before .before .args .u)) (c .before .before .before .before .before .args .a) (c .before .before .before .before .before .args .b) _ (c .before .before .before .before .before .args .exclusions .now) begun (c .before .before .entry .ensures) mine its after))
 

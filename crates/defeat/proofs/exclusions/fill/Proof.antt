@@ -11,16 +11,19 @@ use Rattle.defeat.proofs.exclusions.fill.Statement.{statement}
 use Rattle.defeat.proofs.exclusions.fill.Tie as tie
 
 abbrev Inv-loop : tie.InvT-loop
-Inv-loop table u exclusions₀ a₀ exclusions a = Rowing table (setOf u) exclusions₀ exclusions a
+Inv-loop table u exclusions₀ strict a₀ exclusions a = Rowing table (setOf u) exclusions₀ exclusions a
 
 abbrev μ-loop : tie.MeasureT-loop
-μ-loop table u exclusions₀ a₀ exclusions a = 128 - a
+μ-loop table u exclusions₀ strict a₀ exclusions a = 128 - a
+
+strict-part-requires : tie.Need-strict-part-requires Inv-loop μ-loop
+strict-part-requires c κs = search needs
 
 derive-each-requires : tie.Need-derive-each-requires Inv-loop μ-loop
 derive-each-requires c κs = search needs
 
 loop-holds : tie.Need-loop-holds Inv-loop μ-loop
-loop-holds c = rowing-none _ _ _ _ (c .derive-each .ensures .0) (c .derive-each .ensures .1)
+loop-holds c = rowing-none _ _ _ _ _ _ (c .derive-each .ensures .0) (c .before .before .strict-part .ensures .1) (c .derive-each .ensures .1)
 
 has-requires : tie.Need-has-requires Inv-loop μ-loop
 has-requires c κs = search needs
@@ -49,13 +52,14 @@ loop-less-2 c = search needs
 loop-again-2 : tie.Need-loop-again-2 Inv-loop μ-loop
 unfolding setOf
 loop-again-2 c =
-    rowing-more _ _ _ _ _ (c .before .before .before .before .before .before .before .loop .a) _ _ (omega arith) (sym (c .before .before .before .before .before .has .ensures) ∙ not-false _ (c .before .before .before .before .if1 .left)) (c .before .before .row .ensures)
+    rowing-more _ _ _ _ _ (c .before .before .before .before .before .before .before .loop .a) _ _ _ _ (omega arith) (sym (c .before .before .before .before .before .has .ensures) ∙ not-false _ (c .before .before .before .before .if1 .left))
+    (c .before .before .before .before .before .before .before .before .before .before .strict-part .ensures .1) (c .before .before .row .ensures)
     (c .store .ensures) (c .before .before .before .before .before .before .before .loop .inv)
 
 returns : tie.Need-returns Inv-loop μ-loop
 unfolding setOf
 returns c z =
-    let u = c .before .before .before .before .args .u in
+    let u = c .before .before .before .before .before .args .u in
     let below = joined-below (u .hi) (u .lo) (search needs) (search needs) in
     rowing-all _ _ _ _ (c .before .loop .a) below (c .loop-test .left) (c .before .loop .inv) (c .before .before .derive-each .ensures .0 ∙ z)
 
@@ -65,6 +69,7 @@ fill-spec =
     (tie.spec
     Inv-loop
     μ-loop
+    strict-part-requires
     derive-each-requires
     loop-holds
     has-requires

@@ -8,6 +8,7 @@ use Rattle.literals.specs.Words.{setOf}
 use Rattle.literals.proofs.Words.{joined-below}
 use Rattle.program.specs.Program.{Program}
 use Rattle.program.specs.Table.{Holds}
+use Rattle.derivation.specs.Parts.{StrictOf}
 use Rattle.defeat.specs.Steps.{Begun}
 use Rattle.defeat.proofs.Rows.{Upto, upto-none, upto-skip, upto-more, rowTest, row-all}
 use borrow.Author.Needs.{needs}
@@ -15,12 +16,12 @@ use Rattle.defeat.proofs.exclusions.row.Statement.{statement}
 use Rattle.defeat.proofs.exclusions.row.Tie as tie
 
 abbrev Inv-loop : tie.InvT-loop
-Inv-loop table u exclusions a derived found₀ b₀ found b =
-    (p : Program) → Holds p table → has (setOf u) a ≡ true → Begun (p .rules) (setOf u) a exclusions
+Inv-loop table strict u exclusions a derived found₀ b₀ found b =
+    (p : Program) → Holds p table → StrictOf (p .rules) (setOf (strict .derived)) (setOf (strict .joint)) → has (setOf u) a ≡ true → Begun (p .rules) (setOf u) a exclusions
     → Upto (rowTest (p .rules) (setOf u) a) b (setOf found)
 
 abbrev μ-loop : tie.MeasureT-loop
-μ-loop table u exclusions a derived found₀ b₀ found b = 128 - b
+μ-loop table strict u exclusions a derived found₀ b₀ found b = 128 - b
 
 entry-requires : tie.Need-entry-requires Inv-loop μ-loop
 entry-requires c κs = search needs
@@ -29,7 +30,7 @@ empty-requires : tie.Need-empty-requires Inv-loop μ-loop
 empty-requires c κs = search needs
 
 loop-holds : tie.Need-loop-holds Inv-loop μ-loop
-loop-holds c p holds mine begun = upto-none _ _ (c .empty .ensures)
+loop-holds c p holds strict mine begun = upto-none _ _ (c .empty .ensures)
 
 excluded-requires : tie.Need-excluded-requires Inv-loop μ-loop
 excluded-requires c κs = search needs
@@ -41,9 +42,9 @@ loop-less : tie.Need-loop-less Inv-loop μ-loop
 loop-less c = search needs
 
 loop-again : tie.Need-loop-again Inv-loop μ-loop
-loop-again c p holds mine begun =
-    upto-skip _ (c .before .before .before .loop .b) _ (sym (c .before .excluded .ensures p holds mine begun (c .before .before .before .before .before .entry .ensures)) ∙ not-true _ (c .if1 .taken))
-    (c .before .before .before .loop .inv p holds mine begun)
+loop-again c p holds strict mine begun =
+    upto-skip _ (c .before .before .before .loop .b) _ (sym (c .before .excluded .ensures p holds strict mine begun (c .before .before .before .before .before .entry .ensures)) ∙ not-true _ (c .if1 .taken))
+    (c .before .before .before .loop .inv p holds strict mine begun)
 
 insert-requires : tie.Need-insert-requires Inv-loop μ-loop
 insert-requires c κs = search needs
@@ -55,16 +56,16 @@ loop-less-2 : tie.Need-loop-less-2 Inv-loop μ-loop
 loop-less-2 c = search needs
 
 loop-again-2 : tie.Need-loop-again-2 Inv-loop μ-loop
-loop-again-2 c p holds mine begun =
-    upto-more _ (c .before .before .before .before .loop .b) _ _ (sym (c .before .before .excluded .ensures p holds mine begun (c .before .before .before .before .before .before .entry .ensures)) ∙ not-false _ (c .before .if1 .left))
-    (c .insert .ensures) (c .before .before .before .before .loop .inv p holds mine begun)
+loop-again-2 c p holds strict mine begun =
+    upto-more _ (c .before .before .before .before .loop .b) _ _ (sym (c .before .before .excluded .ensures p holds strict mine begun (c .before .before .before .before .before .before .entry .ensures)) ∙ not-false _ (c .before .if1 .left))
+    (c .insert .ensures) (c .before .before .before .before .loop .inv p holds strict mine begun)
 
 returns : tie.Need-returns Inv-loop μ-loop
 unfolding setOf
-returns c p holds mine begun =
+returns c p holds strict mine begun =
     let u = c .before .before .before .before .args .u in
     let below = joined-below (u .hi) (u .lo) (search needs) (search needs) in
-    row-all (p .rules) _ _ (c .before .loop .b) _ below (c .loop-test .left) (c .before .loop .inv p holds mine begun)
+    row-all (p .rules) _ _ (c .before .loop .b) _ below (c .loop-test .left) (c .before .loop .inv p holds strict mine begun)
 
 pub row-spec : {M : Type 1} → statement M
 row-spec =
