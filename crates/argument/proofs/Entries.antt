@@ -17,16 +17,20 @@ use Rattle.literals.specs.Words.{joined}
 use Rattle.literals.proofs.Tests.{and-left, and-right, and-intro, not-true-false}
 use Rattle.literals.proofs.Members.{has-minus-power, has-insert-same, insert-keeps, has-empty}
 use Rattle.literals.proofs.Lists.{hasAll-within, hasAll-each}
-use Rattle.literals.proofs.Within.{within-each, within-empty, within-union-left, union-within, insert-within}
+use Rattle.literals.proofs.Within.{within-each, within-empty, within-union-right, union-within, insert-within}
 use Rattle.program.specs.Program.{Rule, bitOf, ruleAt, Π-mask, Π}
 use Rattle.program.specs.Limits.{DefeasibleAt}
 use Rattle.program.proofs.Numbers.{defeasible-test, defeasible-found, bit-of-same}
 use Rattle.derivation.specs.Closure.{closure}
+use Rattle.derivation.specs.Parts.{StrictOf, Parted}
+use Rattle.derivation.proofs.Rounds.{Closed}
 use Rattle.derivation.proofs.Closures.{closure-closed}
+use Rattle.derivation.proofs.Parts.{parted-none, parted-closed, parted-union}
 use Rattle.derivation.proofs.Choices.{Π-with-at, Π-mask-empty}
 use Rattle.argument.specs.Fresh.{maskClosure}
 use Rattle.argument.specs.Closures.{closureAt, Stands, Filled, applies, Room}
-use Rattle.argument.proofs.MaskClosures.{minus-subset, mask-closure-mono, mask-contradictory-mono, mask-closure-idle, mask-closure-strict}
+use Rattle.argument.proofs.MaskClosures.{minus-subset, mask-strict, mask-closure-mono, mask-contradictory-mono}
+use Rattle.argument.proofs.MaskClosures.{mask-closure-idle, mask-closure-strict}
 use Rattle.argument.proofs.Tables.{RuleOf}
 
 -- what the readers of the table ask for
@@ -91,6 +95,11 @@ module _ (rules : List Rule) (m b i x : ℕ) (member : has m b ≡ true) (rule :
     stands-within =
         ap (λ (y : ℕ). within y (maskClosure rules m)) (stands .exact coherent) ∙ mask-closure-mono rules less m (minus-subset m b)
 
+    pub stands-closed : Closed (Π rules) x
+    stands-closed =
+        subst (Closed (Π rules)) (sym (stands .exact coherent))
+        (λ r d f. closure-closed (Π-mask less rules) 0 r (mask-strict rules less r d) f)
+
     pub stands-head : has (maskClosure rules m) (ruleAt rules i .head) ≡ true
     stands-head =
         closure-closed (Π-mask m rules) 0 (ruleAt rules i)
@@ -100,29 +109,34 @@ module _ (rules : List Rule) (m b i x : ℕ) (member : has m b ≡ true) (rule :
         derived : hasAll x (ruleAt rules i .body) ≡ true
         derived = hasAll-within x (ruleAt rules i .body) ∙ and-right (not (clash x)) (within body x) ready
 
--- u is derived with m, and has the heads of those rules of m that are not left
-pub record Begun (rules : List Rule) (m left u : ℕ) : Type 0 where
+-- u and h are derived with m, u as a union of closed sets, and h has the heads of those rules of m that are not left
+pub record Begun (rules : List Rule) (j m left u h : ℕ) : Type 0 where
   pub derived : within u (maskClosure rules m) ≡ true
+  pub parted : Parted rules j u
+  pub given : within h (maskClosure rules m) ≡ true
   pub heads : (i : ℕ) → DefeasibleAt rules i → has m (bitOf rules i) ≡ true → has left (bitOf rules i) ≡ false
-      → has u (ruleAt rules i .head) ≡ true
+      → has h (ruleAt rules i .head) ≡ true
 
-pub begun-none : (rules : List Rule) (m u : ℕ) → u ≡ 0 → Begun rules m m u
-begun-none rules m u e =
+pub begun-none : (rules : List Rule) (j m u h : ℕ) → u ≡ 0 → h ≡ 0 → Begun rules j m m u h
+begun-none rules j m u h e f =
     record {
       derived = ap (λ (x : ℕ). within x (maskClosure rules m)) e ∙ within-empty (maskClosure rules m);
-      heads = λ i d h n. absurd (false≢true (sym n ∙ h));
+      parted = subst (Parted rules j) (sym e) (parted-none rules j);
+      given = ap (λ (x : ℕ). within x (maskClosure rules m)) f ∙ within-empty (maskClosure rules m);
+      heads = λ i d q n. absurd (false≢true (sym n ∙ q));
     }
 
 -- the entry without one rule, and the rule's head
-pub begun-more : (rules : List Rule) (m left u b i x : ℕ) (member : has m b ≡ true) (rule : RuleOf rules b i)
-    (stands : Stands rules (minus m (2 ^ b)) x) → applies (insertAll 0 (ruleAt rules i .body)) x ≡ true
-    → Begun rules m left u → Begun rules m (minus left (2 ^ b)) (insert (union u x) (ruleAt rules i .head))
-begun-more rules m left u b i x member rule stands ready begun =
+pub begun-more : (rules : List Rule) (d j m left u h b i x : ℕ) → StrictOf rules d j → (member : has m b ≡ true)
+    (rule : RuleOf rules b i) (stands : Stands rules (minus m (2 ^ b)) x) → applies (insertAll 0 (ruleAt rules i .body)) x ≡ true
+    → Begun rules j m left u h → Begun rules j m (minus left (2 ^ b)) (union u x) (insert h (ruleAt rules i .head))
+begun-more rules d j m left u h b i x strict member rule stands ready begun =
     record {
-      derived = insert-within (union u x) head whole
-          (union-within u x whole (begun .derived) (stands-within rules m b i x member rule stands ready))
-          (stands-head rules m b i x member rule stands ready);
-      heads = λ j d h n. there j d h n (ℕ-discrete j i);
+      derived = union-within u x whole (begun .derived) (stands-within rules m b i x member rule stands ready);
+      parted = parted-union rules d j strict u x (begun .parted)
+          (parted-closed rules j x (stands-closed rules m b i x member rule stands ready));
+      given = insert-within h head whole (begun .given) (stands-head rules m b i x member rule stands ready);
+      heads = λ k d q n. there k d q n (ℕ-discrete k i);
     }
   where
     whole : ℕ
@@ -131,29 +145,36 @@ begun-more rules m left u b i x member rule stands ready begun =
     head : ℕ
     head = ruleAt rules i .head
 
-    there : (j : ℕ) → DefeasibleAt rules j → has m (bitOf rules j) ≡ true → has (minus left (2 ^ b)) (bitOf rules j) ≡ false
-        → Dec (j ≡ i) → has (insert (union u x) head) (ruleAt rules j .head) ≡ true
-    there j d h n (yes e) = ap (λ (k : ℕ). has (insert (union u x) head) (ruleAt rules k .head)) e ∙ has-insert-same (union u x) head
-    there j d h n (no o) =
-        insert-keeps (union u x) head (ruleAt rules j .head)
-        (within-each u (union u x) (within-union-left u x) (ruleAt rules j .head) (begun .heads j d h passed))
+    there : (k : ℕ) → DefeasibleAt rules k → has m (bitOf rules k) ≡ true → has (minus left (2 ^ b)) (bitOf rules k) ≡ false
+        → Dec (k ≡ i) → has (insert h head) (ruleAt rules k .head) ≡ true
+    there k d q n (yes e) = ap (λ (y : ℕ). has (insert h head) (ruleAt rules y .head)) e ∙ has-insert-same h head
+    there k d q n (no o) = insert-keeps h head (ruleAt rules k .head) (begun .heads k d q passed)
       where
-        other : bitOf rules j ≡ b → ⊥
-        other q = o (bit-of-same rules d (rule .is) (q ∙ sym (rule .bit-is)))
+        other : bitOf rules k ≡ b → ⊥
+        other e = o (bit-of-same rules d (rule .is) (e ∙ sym (rule .bit-is)))
 
-        passed : has left (bitOf rules j) ≡ false
+        passed : has left (bitOf rules k) ≡ false
         passed =
-            not-true-false (has left (bitOf rules j)) (λ q.
+            not-true-false (has left (bitOf rules k)) (λ e.
             false≢true
-            (sym n ∙ has-minus-power left b (bitOf rules j)
-            ∙ and-intro (has left (bitOf rules j)) (not (eqb (bitOf rules j) b)) q (ap not (ne-eqb (bitOf rules j) b other))))
+            (sym n ∙ has-minus-power left b (bitOf rules k)
+            ∙ and-intro (has left (bitOf rules k)) (not (eqb (bitOf rules k) b)) e (ap not (ne-eqb (bitOf rules k) b other))))
 
--- with no rule left, the strict rules derive the rest
-pub begun-all : (rules : List Rule) (m u x : ℕ) → Begun rules m 0 u → x ≡ closure (Π-mask 0 rules) u → Stands rules m x
-begun-all rules m u x begun e =
-    stands-equal rules m x
-    (e ∙ ap (λ (l : List Rule). closure l u) (Π-mask-empty rules)
-    ∙ mask-closure-strict rules m u (begun .derived) (λ i l d h. begun .heads i (defeasible-found rules i d) h (has-empty (bitOf rules i))))
+-- with no rule left, the strict rules derive the rest, from a set that has all heads
+module _ (rules : List Rule) (j m u h : ℕ) (begun : Begun rules j m 0 u h) where
+  rest : (v : ℕ) → within v (maskClosure rules m) ≡ true → within h v ≡ true → closure (Π rules) v ≡ maskClosure rules m
+  rest v derived w =
+      mask-closure-strict rules m v derived (λ i l d q.
+      within-each h v w (ruleAt rules i .head) (begun .heads i (defeasible-found rules i d) q (has-empty (bitOf rules i))))
+
+  pub begun-settled : (x : ℕ) → within h u ≡ true → x ≡ closure (Π rules) u → Stands rules m x
+  begun-settled x w e = stands-equal rules m x (e ∙ rest u (begun .derived) w)
+
+  pub begun-closed : (x : ℕ) → x ≡ closure (Π-mask 0 rules) (union u h) → Stands rules m x
+  begun-closed x e =
+      stands-equal rules m x
+      (e ∙ ap (λ (l : List Rule). closure l (union u h)) (Π-mask-empty rules)
+      ∙ rest (union u h) (union-within u h (maskClosure rules m) (begun .derived) (begun .given)) (within-union-right u h))
 
 -- a table with one more entry
 module _ (t : List ℕ) (m lo hi : ℕ) (room : 2 * m + 1 < length t) where

@@ -1,6 +1,6 @@
 -- The loops that fill the closure table, a lemma for each turn and for each way out, over plain numbers.
 -- Assumes nothing.
-use mathlib.Core.Path.{_≡_, refl, sym, ap, ap₂, _∙_, subst}
+use mathlib.Core.Path.{_≡_, refl, sym, ap, _∙_, subst}
 use mathlib.Core.Bool.{true, false}
 use mathlib.Core.List.{List}
 use Prim.Native.Nat.{ℕ, _+_, _*_, _^_, _<_}
@@ -10,33 +10,52 @@ use Rattle.literals.specs.Sets.{has, insert, insertAll, minus, union, within}
 use Rattle.literals.specs.Words.{joined}
 use Rattle.literals.proofs.Members.{has-bound, minus-less}
 use Rattle.literals.proofs.Within.{within-each, within-refl, within-trans, minus-within}
-use Rattle.program.specs.Program.{Program, ruleAt, Π-mask}
+use Rattle.program.specs.Program.{Program, ruleAt, Π-mask, Π}
 use Rattle.program.specs.Limits.{Limits}
 use Rattle.program.specs.Table.{headAt, bodyAt, ruleOfBit, ruleCount, bitCount, Holds}
 use Rattle.derivation.specs.Closure.{closure}
+use Rattle.derivation.specs.Parts.{StrictOf, Parted}
 use Rattle.argument.specs.Closures.{closureAt, Stands, Filled, applies, Numbered}
 use Rattle.argument.proofs.Tables.{RuleOf, table-rule}
-use Rattle.argument.proofs.Entries.{stands-copy, Begun, begun-none, begun-more, begun-all, filled-more}
+use Rattle.argument.proofs.Entries.{stands-copy, Begun, begun-none, begun-more, begun-settled, begun-closed, filled-more}
 
 -- what x is to be, of every program that the table holds
 abbrev pub Derived : List ℕ → List ℕ → ℕ → ℕ → Type 0
 Derived t c m x = (p : Program) → Limits p → Holds p t → Filled (p .rules) m c → Stands (p .rules) m x
 
+-- what is known of the strict rules
+abbrev pub Strictly : List ℕ → ℕ → ℕ → Type 0
+Strictly t d j = (p : Program) → Holds p t → StrictOf (p .rules) d j
+
 -- what holds while the rules `left` of the mask m are left
-pub record Left (t c : List ℕ) (m left u : ℕ) : Type 0 where
+pub record Left (t c : List ℕ) (j m left u h : ℕ) : Type 0 where
   pub part : within left m ≡ true
-  pub begun : (p : Program) → Limits p → Holds p t → Filled (p .rules) m c → Begun (p .rules) m left u
+  pub begun : (p : Program) → Limits p → Holds p t → Filled (p .rules) m c → Begun (p .rules) j m left u h
 
-pub left-all : (t c : List ℕ) (m u : ℕ) → u ≡ 0 → Left t c m m u
-left-all t c m u e = record { part = within-refl m; begun = λ p limits holds filled. begun-none (p .rules) m u e }
+pub left-all : (t c : List ℕ) (j m u h : ℕ) → u ≡ 0 → h ≡ 0 → Left t c j m m u h
+left-all t c j m u h e f =
+    record { part = within-refl m; begun = λ p limits holds filled. begun-none (p .rules) j m u h e f }
 
-pub left-none : (t c : List ℕ) (m left u x : ℕ) → Left t c m left u → left ≡ 0
-    → ((p : Program) → Holds p t → x ≡ closure (Π-mask 0 (p .rules)) u) → Derived t c m x
-left-none t c m left u x state e closed p limits holds filled =
-    begun-all (p .rules) m u x (subst (λ (k : ℕ). Begun (p .rules) m k u) e (state .begun p limits holds filled)) (closed p holds)
+-- none is left
+module _ (t c : List ℕ) (j m left u h : ℕ) (state : Left t c j m left u h) (none : left ≡ 0) where
+  begun-whole : (p : Program) → Limits p → Holds p t → Filled (p .rules) m c → Begun (p .rules) j m 0 u h
+  begun-whole p limits holds filled = subst (λ (k : ℕ). Begun (p .rules) j m k u h) none (state .begun p limits holds filled)
+
+  pub left-settled : (d x : ℕ) → Strictly t d j → within h u ≡ true
+      → ((p : Program) → Holds p t → StrictOf (p .rules) d j → Parted (p .rules) j u → x ≡ closure (Π (p .rules)) u)
+      → Derived t c m x
+  left-settled d x strict w settled p limits holds filled =
+      let begun = begun-whole p limits holds filled in
+      begun-settled (p .rules) j m u h begun x w (settled p holds (strict p holds) (begun .parted))
+
+  pub left-closed : (v x : ℕ) → v ≡ union u h → ((p : Program) → Holds p t → x ≡ closure (Π-mask 0 (p .rules)) v)
+      → Derived t c m x
+  left-closed v x e closed p limits holds filled =
+      begun-closed (p .rules) j m u h (begun-whole p limits holds filled) x
+      (closed p holds ∙ ap (closure (Π-mask 0 (p .rules))) e)
 
 -- a turn at the bit b
-module _ {t c : List ℕ} {m left u : ℕ} (numbered : Numbered t) (inside : m < 2 ^ bitCount t) (state : Left t c m left u)
+module _ {t c : List ℕ} {j m left u h : ℕ} (numbered : Numbered t) (inside : m < 2 ^ bitCount t) (state : Left t c j m left u h)
     (b : ℕ) (member : has left b ≡ true) where
   turn-member : has m b ≡ true
   turn-member = within-each left m (state .part) b member
@@ -67,16 +86,16 @@ module _ {t c : List ℕ} {m left u : ℕ} (numbered : Numbered t) (inside : m <
     turn-copy e p limits holds filled =
         stands-copy (p .rules) m b i x turn-member (its-rule p holds) (its-part p filled) (its-body p holds ∙ e)
 
-    pub turn-next : (y h v k : ℕ) → applies (bodyAt t i) x ≡ true → y ≡ union u x → h ≡ headAt t i → v ≡ insert y h
-        → k ≡ minus left (2 ^ b) → Left t c m k v
-    turn-next y h v k e ey eh ev ek =
+    pub turn-next : (d v a g k : ℕ) → Strictly t d j → applies (bodyAt t i) x ≡ true → v ≡ union u x → a ≡ headAt t i
+        → g ≡ insert h a → k ≡ minus left (2 ^ b) → Left t c j m k v g
+    turn-next d v a g k strict e ev ea eg ek =
         record {
-          part = ap (λ (j : ℕ). within j m) ek
+          part = ap (λ (y : ℕ). within y m) ek
               ∙ within-trans (minus left (2 ^ b)) left m (minus-within left (2 ^ b)) (state .part);
           begun = λ p limits holds filled.
-              let head = eh ∙ holds .row i (its-rule p holds .is .there) .head-is in
-              rw (ek, ev ∙ ap₂ insert ey head)
-              (begun-more (p .rules) m left u b i x turn-member (its-rule p holds) (its-part p filled)
+              let head = ea ∙ holds .row i (its-rule p holds .is .there) .head-is in
+              rw (ek, ev, eg ∙ ap (insert h) head)
+              (begun-more (p .rules) d j m left u h b i x (strict p holds) turn-member (its-rule p holds) (its-part p filled)
               (its-body p holds ∙ e) (state .begun p limits holds filled));
         }
 

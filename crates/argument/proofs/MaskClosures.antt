@@ -29,6 +29,9 @@ module _ (rules : List Rule) where
   pub mask-rules : (n m : ℕ) → Subset n m → (r : Rule) → List·Memᴰ r (Π-mask n rules) → List·Memᴰ r (Π-mask m rules)
   mask-rules n m w = Π-with-mono rules (has n) (has m) w
 
+  pub mask-strict : (m : ℕ) (r : Rule) → List·Memᴰ r (Π rules) → List·Memᴰ r (Π-mask m rules)
+  mask-strict m = Π-with-mono rules (λ _. false) (has m) (λ b e. absurd (false≢true e))
+
   pub mask-heads : (k m : ℕ) → HeadsBelow k rules → HeadsBelow k (Π-mask m rules)
   mask-heads k m h r i = h r (Π-with-rules rules (has m) r i)
 
@@ -65,7 +68,7 @@ module _ (rules : List Rule) where
       → ((i : ℕ) → i < length rules → isDefeasible (ruleAt rules i .kind) ≡ true → has m (bitOf rules i) ≡ true
       → has u (ruleAt rules i .head) ≡ true) → closure (Π rules) u ≡ maskClosure rules m
   mask-closure-strict m u w heads =
-      closure-given (Π rules) (Π-mask m rules) (Π-with-mono rules (λ _. false) (has m) (λ b e. absurd (false≢true e))) 0 u
+      closure-given (Π rules) (Π-mask m rules) (mask-strict m) 0 u
       (within-empty u) w (λ r j. ⊎-elim (λ k. inl k) (λ c. inr (given r c)) (Π-with-cases rules (has m) r j))
     where
       given : (r : Rule)

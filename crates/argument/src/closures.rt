@@ -8,7 +8,9 @@ ghost use Rattle.literals.specs.Words.{setOf};
 ghost use Rattle.program.specs.Program.{Program};
 ghost use Rattle.program.specs.Limits.{Limits};
 ghost use Rattle.program.specs.Table.{bodyAt, bitCount, Holds};
+ghost use Rattle.derivation.specs.Parts.{RulesOf, StrictOf};
 ghost use Rattle.argument.specs.Closures.{closureAt, Stands, Filled, Numbered, Room, applies as «appliesOf»};
+use derivation::Strict;
 use literals::LiteralSet;
 use literals::masks;
 use program::RuleTable;
@@ -37,10 +39,11 @@ pub fn fill(table: &RuleTable, closures: &mut [u64])
     ensures { λ _. ⌜ ((p : Program) → Limits p → Holds p (now (table .entry))
         → Filled (p .rules) (2 ^ bitCount (now (table .entry))) (now (closures .exit))) ⌝ }
 {
+    let strict = derivation::strict_part(table);
     let end = mask_count(program::bit_count(table));
     let mut mask: u64 = 0;
     while mask < end {
-        let derived = derive(table, closures, mask);
+        let derived = derive(table, strict, closures, mask);
         store(closures, mask, derived);
         mask += 1;
     }
@@ -56,14 +59,18 @@ pub fn mask_count(bits: u64) -> u64
 
 // What the mask derives, from the entries with one rule less. If one of those is contradictory, or its rule is not
 // applicable there, it is the mask's own. Otherwise each rule of the mask is applicable without itself, and with the heads
-// of all of them the strict rules derive the rest.
-fn derive(table: &RuleTable, closures: &[u64], mask: u64) -> LiteralSet
+// of all of them the strict rules derive the rest. Each entry is closed under those: where their union has all heads, only
+// the joint rules may add to it.
+fn derive(table: &RuleTable, strict: Strict, closures: &[u64], mask: u64) -> LiteralSet
     requires { ⌜ Numbered (now table) ⌝ }
     requires { ⌜ (mask < 2 ^ bitCount (now table)) × (2 * mask ≤ length (now closures)) ⌝ }
+    requires { ⌜ RulesOf (now table) (setOf (strict .joint)) ⌝ }
+    requires { ⌜ ((p : Program) → Holds p (now table) → StrictOf (p .rules) (setOf (strict .derived)) (setOf (strict .joint))) ⌝ }
     ensures { λ r. ⌜ ((p : Program) → Limits p → Holds p (now (table .entry)) → Filled (p .rules) mask (now (closures .entry))
         → Stands (p .rules) mask (setOf r)) ⌝ }
 {
     let mut start = LiteralSet::empty();
+    let mut heads = LiteralSet::empty();
     let mut left = mask;
     while left != 0 {
         let bit = masks::lowest(left);
@@ -72,10 +79,14 @@ fn derive(table: &RuleTable, closures: &[u64], mask: u64) -> LiteralSet
         if !applies(table, rule, less) {
             return less;
         }
-        start = start.union(less).insert(program::head(table, rule));
+        start = start.union(less);
+        heads = heads.insert(program::head(table, rule));
         left = masks::clear(left, bit);
     }
-    derivation::close(table, 0, start)
+    if heads.within(start) {
+        return derivation::settle(table, strict, start);
+    }
+    derivation::close(table, 0, start.union(heads))
 }
 
 // The set is not contradictory and has the whole body of the rule.

@@ -11,14 +11,14 @@ use Rattle.argument.proofs.closures.fill.Statement.{statement}
 use Rattle.argument.proofs.closures.fill.Tie as tie
 
 abbrev Inv-loop : tie.InvT-loop
-Inv-loop table closures₀ end mask₀ closures mask = (mask ≤ end) × Filling table closures₀ closures mask
+Inv-loop table closures₀ strict end mask₀ closures mask = (mask ≤ end) × Filling table closures₀ closures mask
 
 abbrev μ-loop : tie.MeasureT-loop
-μ-loop table closures₀ end mask₀ closures mask = end - mask
+μ-loop table closures₀ strict end mask₀ closures mask = end - mask
 
 module _ (c : tie.In-loop Inv-loop μ-loop) where
   abbrev start : tie.Start Inv-loop μ-loop
-  start = c .before .before .before .before .before
+  start = c .before .before .before .before .before .before
 
   -- the mask is one of the program's, and the table has room for it
   inside : c .before .loop .mask < 2 ^ bitCount (start .args .table .now)
@@ -33,20 +33,24 @@ module _ (c : tie.In-loop Inv-loop μ-loop) where
   small : c .before .loop .mask < 65536
   small = omega (arith, c .before .before .mask-count .ensures .1, c .loop-test .taken)
 
+strict-part-requires : tie.Need-strict-part-requires Inv-loop μ-loop
+strict-part-requires c κs = c .before .pre .0 .shaped
+
 bit-count-requires : tie.Need-bit-count-requires Inv-loop μ-loop
 bit-count-requires c κs = search needs
 
 mask-count-requires : tie.Need-mask-count-requires Inv-loop μ-loop
-mask-count-requires c κs = omega (arith, c .bit-count .ensures, c .before .before .pre .0 .few)
+mask-count-requires c κs = omega (arith, c .bit-count .ensures, c .before .before .before .pre .0 .few)
 
 loop-holds : tie.Need-loop-holds Inv-loop μ-loop
 loop-holds c = (omega arith, filling-none _ _)
 
 derive-requires : tie.Need-derive-requires Inv-loop μ-loop
 derive-requires c κs =
-    let l = c .before in (
-      c .before .before .before .before .before .before .pre .0,
-      (inside l, omega (arith, room l, c .before .before .loop .inv .1 .kept)),
+    let l = c .before in
+    let strict = c .before .before .before .before .before .strict-part .ensures in (
+      c .before .before .before .before .before .before .before .pre .0,
+      ((inside l, omega (arith, room l, c .before .before .loop .inv .1 .kept)), strict),
     )
 
 store-requires : tie.Need-store-requires Inv-loop μ-loop
@@ -85,6 +89,7 @@ fill-spec =
     (tie.spec
     Inv-loop
     μ-loop
+    strict-part-requires
     bit-count-requires
     mask-count-requires
     loop-holds
