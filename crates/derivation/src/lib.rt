@@ -123,7 +123,7 @@ fn adds(table: &RuleTable, i: u64, s: LiteralSet) -> bool
     requires { ⌜ (i < 96) × (headAt (now table) i < 128) ⌝ }
     ensures { λ r. ⌜ r ≡ addsAt (now (table .entry)) i (setOf s) ⌝ }
 {
-    program::body(table, i).within(s) & !s.has(program::head(table, i))
+    program::body(table, i).within(s) && !s.has(program::head(table, i))
 }
 
 // Each rule once, in table order.

@@ -1,5 +1,5 @@
 -- Facts about the outcomes of tests. Assumes nothing.
-use mathlib.Core.Path.{_≡_, refl, sym}
+use mathlib.Core.Path.{_≡_, refl, sym, ap, _∙_}
 use mathlib.Core.Bool.{Bool, true, false, not, _&&_, _||_, false≢true}
 use mathlib.Core.Logic.{_⊎_, inl, inr}
 use lib.Dec.{T}
@@ -35,6 +35,13 @@ and-left false b e = e
 pub and-right : (a b : Bool) → (a && b) ≡ true → b ≡ true
 and-right true b e = e
 and-right false b e = absurd (false≢true e)
+
+-- a result w ≡ a && b that is decided by its first test, and one that is left to the second
+pub and-failed : {w a : Bool} (b : Bool) → w ≡ a → w ≡ false → w ≡ (a && b)
+and-failed b e t = t ∙ sym (ap (λ (x : Bool). x && b) (sym e ∙ t))
+
+pub and-passed : {w h a b : Bool} → w ≡ a → w ≡ true → h ≡ b → h ≡ (a && b)
+and-passed {b = b} e t f = f ∙ sym (ap (λ (x : Bool). x && b) (sym e ∙ t))
 
 pub or-left : (a b : Bool) → a ≡ true → (a || b) ≡ true
 or-left true b e = refl

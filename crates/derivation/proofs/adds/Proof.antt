@@ -1,9 +1,11 @@
--- `derivation::adds` meets its contract. Assumes nothing.
-use mathlib.Core.Path.{ap, ap₂, _∙_}
-use mathlib.Core.Bool.{Bool, not, _&&_}
+-- `derivation::adds` meets its contract: the head is looked at only where the body is there.
+use mathlib.Core.Path.{ap, _∙_}
+use mathlib.Core.Bool.{not}
 use Prim.Native.Nat.{ℕ}
 use Rattle.literals.specs.Sets.{has, within}
 use Rattle.literals.specs.Words.{setOf}
+use Rattle.literals.proofs.Tests.{and-passed, and-failed}
+use Rattle.program.specs.Table.{headAt}
 use borrow.Author.Needs.{needs}
 use Rattle.derivation.proofs.adds.Statement.{statement}
 use Rattle.derivation.proofs.adds.Tie as tie
@@ -22,9 +24,16 @@ has-requires c κs = search needs
 
 returns : tie.Need-returns
 returns c =
-    let s = setOf (c .before .before .before .before .args .s) in
-    ap₂ (λ (x y : Bool). x && not y) (c .before .before .within .ensures ∙ ap (λ (w : ℕ). within w s) (c .before .before .before .body .ensures))
-    (c .has .ensures ∙ ap (has s) (c .before .head .ensures))
+    let s = setOf (c .before .before .before .before .before .args .s) in
+    and-passed (c .before .before .before .within .ensures ∙ ap (λ (w : ℕ). within w s) (c .before .before .before .before .body .ensures)) (c .before .before .if1 .taken)
+    (ap not (c .has .ensures ∙ ap (has s) (c .before .head .ensures)))
+
+returns-2 : tie.Need-returns-2
+returns-2 c =
+    let s = setOf (c .before .before .before .args .s) in
+    and-failed (not (has s (headAt (c .before .before .before .args .table .now) (c .before .before .before .args .i))))
+    (c .before .within .ensures ∙ ap (λ (w : ℕ). within w s) (c .before .before .body .ensures)) (c .if1 .left)
 
 pub adds-spec : {M : Type 1} → statement M
-adds-spec = tie.close (tie.spec body-requires within-requires head-requires has-requires returns)
+adds-spec =
+    tie.close (tie.spec body-requires within-requires head-requires has-requires returns returns-2)

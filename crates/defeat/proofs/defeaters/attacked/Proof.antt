@@ -1,20 +1,13 @@
 -- `defeaters::attacked` meets its contract: the literal is looked at only where the mask is within y. Assumes nothing.
-use mathlib.Core.Path.{_≡_, sym, ap, _∙_}
-use mathlib.Core.Bool.{Bool, true, false, _&&_}
+use mathlib.Core.Path.{ap, _∙_}
 use Prim.Native.Nat.{ℕ}
 use borrow.Author.Needs.{needs}
 use Rattle.literals.specs.Sets.{has, within}
 use Rattle.literals.specs.Words.{setOf}
+use Rattle.literals.proofs.Tests.{and-passed, and-failed}
 use Rattle.argument.specs.Argument.{literalOf}
 use Rattle.defeat.proofs.defeaters.attacked.Statement.{statement}
 use Rattle.defeat.proofs.defeaters.attacked.Tie as tie
-
--- the first test passes, and fails
-passed : {w h a b : Bool} → w ≡ a → w ≡ true → h ≡ b → h ≡ (a && b)
-passed {b = b} e t f = f ∙ sym (ap (λ (x : Bool). x && b) (sym e ∙ t))
-
-failed : {w a : Bool} (b : Bool) → w ≡ a → w ≡ false → w ≡ (a && b)
-failed b e t = t ∙ sym (ap (λ (x : Bool). x && b) (sym e ∙ t))
 
 mask-of-requires : tie.Need-mask-of-requires
 mask-of-requires c κs = search needs
@@ -32,7 +25,7 @@ returns : tie.Need-returns
 returns c =
     let w = c .before .before .before in
     let a = w .before .before .args in
-    passed (w .within .ensures ∙ ap (λ (m : ℕ). within m (a .y)) (w .before .mask-of .ensures))
+    and-passed (w .within .ensures ∙ ap (λ (m : ℕ). within m (a .y)) (w .before .mask-of .ensures))
     (c .before .before .if1 .taken)
     (c .has .ensures ∙ ap (has (setOf (a .excluded))) (c .before .literal-of .ensures .0))
 
@@ -40,7 +33,7 @@ returns-2 : tie.Need-returns-2
 returns-2 c =
     let w = c .before in
     let a = w .before .before .args in
-    failed (has (setOf (a .excluded)) (literalOf (a .z)))
+    and-failed (has (setOf (a .excluded)) (literalOf (a .z)))
     (w .within .ensures ∙ ap (λ (m : ℕ). within m (a .y)) (w .before .mask-of .ensures)) (c .if1 .left)
 
 pub attacked-spec : {M : Type 1} → statement M
