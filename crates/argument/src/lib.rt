@@ -12,7 +12,6 @@ use program::RuleTable;
 pub mod arguments;
 pub mod closures;
 pub mod numbers;
-pub mod sized;
 
 // The number of arguments, or that the lent table is too short for them.
 pub enum Listed {

@@ -62,7 +62,7 @@ pub fn list(image: &[u8], arguments: &mut [u32]) -> Listed
     if let Verdict::Refused { number, place } = load(image, &mut table) {
         return Listed::Refused { number, place };
     }
-    match argument::sized::list(&table, arguments) {
+    match listing::list(&table, arguments) {
         argument::Listed::Count(count) => Listed::Count(count),
         argument::Listed::Over => Listed::Refused {
             number: 23,

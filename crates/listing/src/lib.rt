@@ -5,10 +5,10 @@ ghost use Prim.Native.Nat.{_≤_};
 ghost use Rattle.program.specs.Program.{Program};
 ghost use Rattle.program.specs.Limits.{Limits};
 ghost use Rattle.program.specs.Table.{bitCount, Holds};
 ghost use Rattle.argument.specs.List.{argumentList};
 ghost use Rattle.argument.specs.Closures.{Numbered};
 ghost use Rattle.argument.specs.Listing.{listed, withList, Lists};
-use crate::Listed;
+use argument::Listed;
 use program::RuleTable;
 
 // Writes the argument list of the program that the table holds.
@@ -35,7 +35,7 @@ fn small(table: &RuleTable, arguments: &mut [u32]) -> Listed
     ensures { λ r. ⌜ Lists (now (table .entry)) (now (arguments .entry)) (now (arguments .exit)) r ⌝ }
 {
     let mut closures = [0u64; 512];
-    crate::list(table, &mut closures, arguments)
+    argument::list(table, &mut closures, arguments)
 }
 
 fn middle(table: &RuleTable, arguments: &mut [u32]) -> Listed
@@ -44,7 +44,7 @@ fn middle(table: &RuleTable, arguments: &mut [u32]) -> Listed
     ensures { λ r. ⌜ Lists (now (table .entry)) (now (arguments .entry)) (now (arguments .exit)) r ⌝ }
 {
     let mut closures = [0u64; 8192];
-    crate::list(table, &mut closures, arguments)
+    argument::list(table, &mut closures, arguments)
 }
 
 // The branch is for the compiler, and no call takes it: a function that calls itself is not merged into its caller, whose
@@ -60,5 +60,5 @@ fn large(table: &RuleTable, arguments: &mut [u32], bits: u64) -> Listed
         };
     }
     let mut closures = [0u64; 131072];
-    crate::list(table, &mut closures, arguments)
+    argument::list(table, &mut closures, arguments)
 }

@@ -1,9 +1,9 @@
 -- A table for 12 rules has room. Assumes nothing.
 use native.Mathlib.Omega.{arith}
 use borrow.Author.Needs.{needs}
 use Rattle.argument.proofs.Tables.{room-upto}
-use Rattle.argument.proofs.sized.middle.Statement.{statement}
-use Rattle.argument.proofs.sized.middle.Tie as tie
+use Rattle.listing.proofs.middle.Statement.{statement}
+use Rattle.listing.proofs.middle.Tie as tie
 
 slice-aggregate-list : tie.Need-slice-aggregate-list
 slice-aggregate-list c = search needs
