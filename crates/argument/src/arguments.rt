@@ -28,7 +28,7 @@ pub fn fresh(closures: &[u64], bits: u64, mask: u64) -> LiteralSet
         if whole.within(less) {
             return LiteralSet::empty();
         }
-        left = masks::clear(left, bit);
+        left = masks::rest(left);
     }
     whole.minus(less)
 }
@@ -85,7 +85,7 @@ fn write_word(arguments: &mut [u32], at: usize, base: u64, word: u64) -> usize
         let bit = masks::lowest(left);
         arguments[next] = (base + bit) as u32;
         next += 1;
-        left = masks::clear(left, bit);
+        left = masks::rest(left);
     }
     next
 }

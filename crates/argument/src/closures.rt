@@ -81,7 +81,7 @@ fn derive(table: &RuleTable, strict: Strict, closures: &[u64], mask: u64) -> Lit
         }
         start = start.union(less);
         heads = heads.insert(program::head(table, rule));
-        left = masks::clear(left, bit);
+        left = masks::rest(left);
     }
     if heads.within(start) {
         return derivation::settle(table, strict, start);

@@ -113,7 +113,7 @@ fn any_adds(table: &RuleTable, rules: u64, first: u64, s: LiteralSet) -> bool
         if adds(table, first + bit, s) {
             return true;
         }
-        left = masks::clear(left, bit);
+        left = masks::rest(left);
     }
     false
 }

@@ -10,7 +10,7 @@ use native.Mathlib.Omega.{arith}
 use lib.Arith.{bin-ind}
 use lib.Pow.{shr-shr, high, pow-mono}
 use lib.Count.{trailingZeros, under}
-use lib.Bits.{bitAnd, bitOr, and-zero-r, block-half, block-odd, and-step, or-step, and-shr, or-shr, and-le-l}
+use lib.Bits.{bitAnd, bitOr, and-zero-r, block-half, block-odd, and-step, or-step, and-shr, or-shr, and-le-l, and-self}
 use Rattle.literals.specs.Sets.{bit, minus}
 
 pub bit-below : (s k : ℕ) → bit s k < 2
@@ -168,3 +168,17 @@ bit-under-trailing (suc n) s k l = go (digit-cases (s % 2) (omega arith)) k l (�
     go (inl z) (suc j) h half =
         let g : suc j < suc (trailingZeros n (s / 2)) = rw z at h in bit-half s j ∙ half j (omega arith)
     go (inr o) k h half = let g : k < 0 = rw o at h in absurd (omega arith)
+
+-- a number and the one below it have all digits but the lowest in common
+pub and-pred : (s k : ℕ) → bit s k ≡ 1 → ((j : ℕ) → j < k → bit s j ≡ 0) → bitAnd s (s - 1) ≡ s - 2 ^ k
+and-pred s zero e f =
+    let odd : s % 2 ≡ 1 = sym (bit-first s) ∙ e in
+    let half : bitAnd (s / 2) ((s - 1) / 2) ≡ s / 2 = ap (bitAnd (s / 2)) (omega arith) ∙ and-self (s / 2) in
+    omega (arith, and-step s (s - 1))
+and-pred s (suc k) e f =
+    let even : s % 2 ≡ 0 = sym (bit-first s) ∙ f 0 (omega arith) in
+    let some : 0 < s = omega (arith, bit-le s (suc k) e, pow-mono {i = 0} {j = suc k} (omega arith)) in
+    let half : bitAnd (s / 2) ((s - 1) / 2) ≡ s / 2 - 2 ^ k
+    = ap (bitAnd (s / 2)) (omega arith)
+    ∙ and-pred (s / 2) k (sym (bit-half s k) ∙ e) (λ j h. sym (bit-half s j) ∙ f (suc j) (omega arith)) in
+    omega (arith, and-step s (s - 1), pow-suc 2 k)

@@ -1,6 +1,6 @@
 // Masks of defeasible rules: bit b is the rule that got bit b.
 ghost use mathlib.Core.Path.{_≡_};
-ghost use Prim.Native.Nat.{_<_, _^_};
+ghost use Prim.Native.Nat.{ℕ, _<_, _^_};
 ghost use lib.Count.{ones};
 ghost use Rattle.literals.specs.Sets.{has as «hasOf», insert, minus, within as «withinOf», Lowest};
 
@@ -48,4 +48,13 @@ pub fn lowest(mask: u64) -> u64
     ensures { λ r. ⌜ Lowest mask r ⌝ }
 {
     u64::trailing_zeros(mask) as u64
+}
+
+// The mask without its lowest bit. Cheaper than clearing a bit by its number, and the next turn of a loop does not wait for
+// that number.
+pub fn rest(mask: u64) -> u64
+    requires { ⌜ (mask ≡ 0 → ⊥) ⌝ }
+    ensures { λ r. ⌜ ((k : ℕ) → Lowest mask k → r ≡ minus mask (2 ^ k)) ⌝ }
+{
+    mask & (mask - 1)
 }

@@ -43,19 +43,19 @@ adds-requires c κs = (omega (arith, inside c, start c .pre .0 .few), start c .p
 returns : tie.Need-returns Inv-loop μ-loop
 returns c = λ e. absurd (false≢true (sym e))
 
-clear-requires : tie.Need-clear-requires Inv-loop μ-loop
-clear-requires c κs = c .before .before .lowest .ensures .small
+rest-requires : tie.Need-rest-requires Inv-loop μ-loop
+rest-requires c κs = c .before .before .before .loop-test .taken
 
 loop-less : tie.Need-loop-less Inv-loop μ-loop
 loop-less c =
-    rw (c .clear .ensures)
+    rw (c .rest .ensures _ (c .before .before .before .lowest .ensures))
     (minus-less (c .before .before .before .before .before .loop .left) (c .before .before .before .lowest .result) (c .before .before .before .lowest .ensures .member))
 
 loop-again : tie.Need-loop-again Inv-loop μ-loop
 loop-again c =
     sought-next _ _ _ _ (c .before .before .before .before .before .loop .left) (c .before .before .before .lowest .result) _
     (c .before .before .before .before .before .loop .inv)
-    (sym (c .before .before .adds .ensures) ∙ c .before .if1 .left) (c .clear .ensures)
+    (sym (c .before .before .adds .ensures) ∙ c .before .if1 .left) (c .rest .ensures _ (c .before .before .before .lowest .ensures))
 
 returns-2 : tie.Need-returns-2 Inv-loop μ-loop
 returns-2 c = λ e. sought-none _ _ _ _ (c .before .loop .left) (c .before .loop .inv) (c .loop-test .left)
@@ -71,7 +71,7 @@ any-adds-spec =
     add-adds
     adds-requires
     returns
-    clear-requires
+    rest-requires
     loop-less
     loop-again
     returns-2)

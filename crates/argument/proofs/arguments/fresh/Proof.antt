@@ -81,13 +81,13 @@ returns-2 c =
     (sym (w .before .contradictory .ensures) ∙ w .if1 .left) _ _ _
     next (sym (c .before .before .within .ensures) ∙ c .before .if2 .taken) (c .empty3 .ensures)
 
-clear-requires-2 : tie.Need-clear-requires-2 Inv-loop μ-loop
-clear-requires-2 c κs = c .before .before .before .before .before .lowest .ensures .small
+rest-requires : tie.Need-rest-requires Inv-loop μ-loop
+rest-requires c κs = c .before .before .before .before .before .before .loop-test .taken
 
 loop-less : tie.Need-loop-less Inv-loop μ-loop
 loop-less c =
     let l = c .before .before .before .before .before .before in
-    rw (c .clear2 .ensures) (minus-less (l .before .before .loop .left) (l .lowest .result) (l .lowest .ensures .member))
+    rw (c .rest .ensures _ (l .lowest .ensures)) (minus-less (l .before .before .loop .left) (l .lowest .result) (l .lowest .ensures .member))
 
 loop-again : tie.Need-loop-again Inv-loop μ-loop
 loop-again c inside =
@@ -95,7 +95,7 @@ loop-again c inside =
     rest-next _ _ _ inside _ _ (l .lowest .result) _ _ _ _ (l .before .before .loop .inv inside)
     (l .lowest .ensures .member)
     (c .before .before .before .before .before .clear .ensures) (c .before .before .before .before .entry2 .ensures)
-    (c .before .before .before .union .ensures) (c .clear2 .ensures)
+    (c .before .before .before .union .ensures) (c .rest .ensures _ (l .lowest .ensures))
 
 minus-requires : tie.Need-minus-requires Inv-loop μ-loop
 minus-requires c κs = search needs
@@ -127,7 +127,7 @@ fresh-spec =
     within-requires
     empty-requires-3
     returns-2
-    clear-requires-2
+    rest-requires
     loop-less
     loop-again
     minus-requires

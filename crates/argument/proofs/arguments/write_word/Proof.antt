@@ -59,18 +59,18 @@ slice-write-arguments c = place c
 add-next : tie.Need-add-next Inv-loop μ-loop
 add-next c = omega (arith, place c, c .before .before .before .before .good)
 
-clear-requires : tie.Need-clear-requires Inv-loop μ-loop
-clear-requires c κs = c .lowest .ensures .small
+rest-requires : tie.Need-rest-requires Inv-loop μ-loop
+rest-requires c κs = c .before .loop-test .taken
 
 loop-less : tie.Need-loop-less Inv-loop μ-loop
 loop-less c =
     let l = c .before in
-    rw (c .clear .ensures) (minus-less (left l) (bit l) (l .lowest .ensures .member))
+    rw (c .rest .ensures _ (l .lowest .ensures)) (minus-less (left l) (bit l) (l .lowest .ensures .member))
 
 loop-again : tie.Need-loop-again Inv-loop μ-loop
 loop-again c =
     let l = c .before in
-    rw (c .clear .ensures)
+    rw (c .rest .ensures _ (l .lowest .ensures))
     (writing-one _ _ _ (c .before .before .before .loop .next) _ _ (c .before .before .before .loop .inv) _ _ (first l))
 
 same-length : tie.Need-same-length Inv-loop μ-loop
@@ -92,7 +92,7 @@ write-word-spec =
     mul-arguments
     slice-write-arguments
     add-next
-    clear-requires
+    rest-requires
     loop-less
     loop-again
     same-length

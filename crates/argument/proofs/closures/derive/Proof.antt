@@ -95,13 +95,13 @@ insert-requires c κs =
     let i = c .before .before .before .before .before .before .rule-of-bit in
     omega (arith, c .head .ensures, start l .pre .0 .shaped .literals (i .result) (omega (arith, rule l, i .ensures)))
 
-clear-requires-2 : tie.Need-clear-requires-2 Inv-loop μ-loop
-clear-requires-2 c κs = c .before .before .before .before .before .before .before .before .lowest .ensures .small
+rest-requires : tie.Need-rest-requires Inv-loop μ-loop
+rest-requires c κs = c .before .before .before .before .before .before .before .before .before .loop-test .taken
 
 loop-less : tie.Need-loop-less Inv-loop μ-loop
 loop-less c =
     let l = c .before .before .before .before .before .before .before .before .before in
-    rw (c .clear2 .ensures) (minus-less (l .before .before .loop .left) (l .lowest .result) (l .lowest .ensures .member))
+    rw (c .rest .ensures _ (l .lowest .ensures)) (minus-less (l .before .before .loop .left) (l .lowest .result) (l .lowest .ensures .member))
 
 loop-again : tie.Need-loop-again Inv-loop μ-loop
 loop-again c =
@@ -115,7 +115,7 @@ loop-again c =
     (sym (c .before .before .before .before .before .applies .ensures) ∙ not-false _
     (c .before .before .before .before .if1 .left)) (c .before .before .before .union .ensures)
     (c .before .before .head .ensures) (c .before .insert .ensures)
-    (c .clear2 .ensures)
+    (c .rest .ensures _ (l .lowest .ensures))
 
 within-requires : tie.Need-within-requires Inv-loop μ-loop
 within-requires c κs = search needs
@@ -162,7 +162,7 @@ derive-spec =
     union-requires
     head-requires
     insert-requires
-    clear-requires-2
+    rest-requires
     loop-less
     loop-again
     within-requires
