@@ -10,16 +10,16 @@ use lib.ListN.{length-set}
 use Rattle.literals.specs.Sets.{union}
 use Rattle.tree.specs.Tables.{columns}
 use Rattle.tree.proofs.Turn.{Turn, turn-none, turn-enters, turn-start, turn-asked, turn-marks, turn-end, turn-ready, turn-over, turn-mark, turn-index, turn-less, turn-step}
-use Rattle.forest.proofs.turns.+objector+supporter.Lts-objector as objector-lts
-use Rattle.forest.proofs.turns.supporter.Reads as supporter
-use Rattle.forest.proofs.turns.supporter.Kinds as supporter-kinds
-use Rattle.forest.proofs.turns.+objector+supporter.Lts-supporter as supporter-lts
+use Rattle.turns.proofs.+objector+supporter.Lts-objector as objector-lts
+use Rattle.turns.proofs.supporter.Reads as supporter
+use Rattle.turns.proofs.supporter.Kinds as supporter-kinds
+use Rattle.turns.proofs.+objector+supporter.Lts-supporter as supporter-lts
 use Rattle.tree.proofs.candidates.first_reply.Reads as first-reply-reads
 use Rattle.tree.proofs.nodes.enter.Reads as enter-reads
 use Rattle.argument.proofs.numbers.mask_of.Reads as mask-of-reads
 use Rattle.tree.proofs.nodes.settled.Reads as settled-reads
-use Rattle.forest.proofs.turns.+objector+supporter.{statement}
-use Rattle.forest.proofs.turns.+objector+supporter.Tie.{close}
+use Rattle.turns.proofs.+objector+supporter.{statement}
+use Rattle.turns.proofs.+objector+supporter.Tie.{close}
 
 abbrev μ : Measures 9 supporter-kinds.ps ℕ
 μ κs a = a .1 .1 .1 .1 .1 .1 .1 .1 .1 .1 .1 .1 .1 .0 - a .1 .1 .1 .1 .1 .1 .1 .1 .1 .1 .1 .1 .0
