@@ -3,7 +3,7 @@ ghost use mathlib.Core.Path.{_≡_};
 ghost use Prim.Native.Nat.{_<_};
 ghost use Rattle.warrant.specs.Calls.{packed, hostCall};
 use answer::Answer;
-use warrant::Node;
+use nodes::Node;
 
 // An answer as one number: code * 65,536 + nodes, or a cause's bare number.
 fn pack(answer: Answer) -> u32

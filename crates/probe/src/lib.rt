@@ -6,8 +6,8 @@ ghost use Rattle.probe.specs.Probe.{verdictNumber, listedNumber, closedN
 use answer::Answer;
 use layout::Verdict;
 use literals::LiteralSet;
+use nodes::Node;
 use warrant::Listed;
-use warrant::Node;
 
 // 0 where the image is accepted, else number * 2^32 + place.
 #[no_mangle]

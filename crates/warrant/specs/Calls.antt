@@ -17,7 +17,8 @@ use Rattle.answer.specs.declared.Answer.{Answer}
 use Rattle.answer.specs.declared.Answer.the-variants.{Yes, No, Undecided, Unknown, Unfinished, Refused}
 use Rattle.warrant.specs.declared.Listed.{Listed}
 use Rattle.warrant.specs.declared.Listed.the-variants as lists
-use Rattle.warrant.specs.declared.Node.{Node}
+use Rattle.nodes.specs.declared.Node.{Node}
+pub use Rattle.nodes.specs.Rows.{nodeOf}
 pub use Rattle.answer.specs.Tables.{front, nodesAfter, zeroed, columnAfter}
 use Rattle.answer.specs.Answer.{tests, forestEntries, answer, codeOf, nodesOf}
 
@@ -79,10 +80,6 @@ queried s h budget argumentRoom nodeRoom =
 unfoldable pub queryArguments : List ℕ → (literal budget : ℕ) → List ℕ → (nodeRoom : ℕ) → List ℕ
 queryArguments s h budget table nodeRoom =
     unlessRefused (queryVerdict s h budget (length table) nodeRoom) (front (listIn s) table) table
-
--- "each with: index in the argument list; parent's node number ..; kind ..; mark"
-abbrev pub nodeOf : Entry → Node
-nodeOf e = record { argument = e .argument; parent = e .parent; kind = e .kind; mark = e .mark }
 
 -- what a field of the entries, or the whole entry, leaves in a table of its own, beside a node table of so many entries
 unfoldable pub queryColumn : {A : Type 0} → (Entry → A) → List ℕ → (literal budget argumentRoom nodeRoom : ℕ) → List A

@@ -2,4 +2,3 @@
 pub mod Calls
 pub mod Claims
 pub mod Columns
-pub mod Rows

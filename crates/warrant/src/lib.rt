@@ -8,25 +8,15 @@ ghost use Rattle.warrant.specs.Calls.{queried, queryArguments, queryNode
 use answer::Answer;
 use layout::Verdict;
 use literals::LiteralSet;
+use nodes::Node;
 use program::RuleTable;
 
 mod columns;
-mod nodes;
 
 // The number of arguments, or the number and place of the first cause that applies.
 pub enum Listed {
     Count(u32),
     Refused { number: u32, place: u32 },
-}
-
-// A node of a dialectical tree: its argument's index in the argument list, its parent's node number, its kind, its mark.
-// In C's layout, since tests lend such a table from outside.
-#[repr(C)]
-pub struct Node {
-    pub argument: u32,
-    pub parent: u32,
-    pub kind: u8,
-    pub mark: u8,
 }
 
 // The first of causes 1 to 14 that applies to an image.

@@ -54,19 +54,19 @@ use denote.Exit.{yes}
 use borrow.Author.Tests.{lt-ltb, le-ltb}
 use Rattle.lists.proofs.Locals.{var, gets}
 use Rattle.tree.specs.Tables.{Columns, columns, Hold}
-use Rattle.warrant.specs.declared.Node.{Node}
-use Rattle.warrant.specs.Calls.{front}
-use Rattle.warrant.specs.Rows.{rowAt, rows}
-use Rattle.warrant.proofs.Rows.{front-rows-length, front-rows-next}
-use Rattle.warrant.proofs.Node as node
-use Rattle.warrant.proofs.Node.Laws as node-laws
-use Rattle.warrant.proofs.nodes.row as row
-use Rattle.warrant.proofs.nodes.row.Symbol as row-symbol
-use Rattle.warrant.proofs.nodes.row.Met as row-met
-use Rattle.warrant.proofs.nodes.write.Key.{name as #write}
-use Rattle.warrant.proofs.nodes.write as write
-use Rattle.warrant.proofs.nodes.write.Statement as stated
-use Rattle.warrant.proofs.nodes.write.Code as code
+use Rattle.nodes.specs.declared.Node.{Node}
+use Rattle.answer.specs.Tables.{front}
+use Rattle.nodes.specs.Rows.{rowAt, rows}
+use Rattle.nodes.proofs.Rows.{front-rows-length, front-rows-next}
+use Rattle.nodes.proofs.Node as node
+use Rattle.nodes.proofs.Node.Laws as node-laws
+use Rattle.nodes.proofs.row as row
+use Rattle.nodes.proofs.row.Symbol as row-symbol
+use Rattle.nodes.proofs.row.Met as row-met
+use Rattle.nodes.proofs.write.Key.{name as #write}
+use Rattle.nodes.proofs.write as write
+use Rattle.nodes.proofs.write.Statement as stated
+use Rattle.nodes.proofs.write.Code as code
 
 abbrev stayed : Stays (write.ended .signature .params) (write.ended .kept)
 stayed = (
@@ -427,4 +427,4 @@ write-spec 𝓤 H 𝓜 𝓖 𝓡 =
     (tables 𝓤 H 𝓜 𝓡 code.env .C) (tables 𝓤 H 𝓜 𝓡 code.env .Λ) #write code.function (code.unfolded 𝓤 H 𝓜 𝓡)
     (write-meets 𝓤 H (𝓖 .A) (givenOf 𝓤 H 𝓜 𝓖) (𝓜 .mem) (𝓡 .run) (tablesOf 𝓤 H 𝓜 (tables 𝓤 H 𝓜 𝓡 code.env))
     (cited 𝓤 H (Row 𝓤 H (𝓖 .A) (𝓜 .mem) (𝓡 .run)) 𝓜 𝓡 code.env row-symbol.name row-symbol.routine
-    code.calls-warrant·nodes·row (row-met.met 𝓤 H 𝓜 𝓖 𝓡)))
+    code.calls-nodes·row (row-met.met 𝓤 H 𝓜 𝓖 𝓡)))

@@ -4,10 +4,19 @@ ghost use Prim.Native.Nat.{_<_, _≤_};
 ghost use lib.ListN.{length};
 ghost use Rattle.tree.specs.Tables.{columns, Hold};
 ghost use Rattle.answer.specs.Answer.{nodesOf};
-ghost use Rattle.warrant.specs.Calls.{front};
-ghost use Rattle.warrant.specs.Rows.{rowAt, rows};
-use crate::Node;
+ghost use Rattle.answer.specs.Tables.{front};
+ghost use Rattle.nodes.specs.Rows.{rowAt, rows};
 use answer::Answer;
+
+// A node of a dialectical tree: its argument's index in the argument list, its parent's node number, its kind, its mark.
+// In C's layout, since tests lend such a table from outside.
+#[repr(C)]
+pub struct Node {
+    pub argument: u32,
+    pub parent: u32,
+    pub kind: u8,
+    pub mark: u8,
+}
 
 // How many entries of the node table an answer names.
 pub fn count(answer: Answer) -> usize
