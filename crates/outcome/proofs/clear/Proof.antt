@@ -6,9 +6,9 @@ use native.Mathlib.Nat.{le-trans}
 use native.Mathlib.Omega.{arith}
 use lib.ListN.{length, replicate}
 use Rattle.answer.specs.Tables.{front}
-use Rattle.decision.proofs.Zeros.{zeros-more, zeros-length, zeros-inside, cleared-all}
-use Rattle.decision.proofs.answering.clear.Statement.{statement}
-use Rattle.decision.proofs.answering.clear.Tie as tie
+use Rattle.outcome.proofs.Zeros.{zeros-more, zeros-length, zeros-inside, cleared-all}
+use Rattle.outcome.proofs.clear.Statement.{statement}
+use Rattle.outcome.proofs.clear.Tie as tie
 
 abbrev Inv-loop : tie.InvT-loop
 Inv-loop indexes₀ parents₀ kinds₀ marks₀ n i₀ indexes parents kinds marks i =

@@ -2,10 +2,10 @@
 use mathlib.Core.Path.{refl, sym, ap, _∙_}
 use mathlib.Core.Bool.{true, false}
 use native.Mathlib.Omega.{arith}
-use Rattle.decision.proofs.Decisions.{concluded-over, concluded-within}
+use Rattle.outcome.proofs.Concluded.{concluded-over, concluded-within}
 use borrow.Author.Needs.{needs}
-use Rattle.decision.proofs.answering.conclude.Statement.{statement}
-use Rattle.decision.proofs.answering.conclude.Tie as tie
+use Rattle.outcome.proofs.conclude.Statement.{statement}
+use Rattle.outcome.proofs.conclude.Tie as tie
 
 cast-nodes : tie.Need-cast-nodes
 cast-nodes c = search needs
