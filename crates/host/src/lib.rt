@@ -1,7 +1,7 @@
 // The call from the host program in C.
 ghost use mathlib.Core.Path.{_≡_};
 ghost use Prim.Native.Nat.{_<_};
-ghost use Rattle.warrant.specs.Calls.{packed, hostCall};
+ghost use Rattle.calls.specs.Calls.{packed, hostCall};
 use answer::Answer;
 use nodes::Node;
 

@@ -21,13 +21,13 @@ use Rattle.answer.specs.declared.Answer.{Answer}
 use Rattle.answer.specs.declared.Answer.the-variants.{Yes, No, Undecided, Unknown, Unfinished, Refused}
 use Rattle.answer.specs.Answer.{occurs, forestEntries, nodeCount, warranted, answerOf, answerBy, tests, answer}
 use Rattle.answer.specs.Answer.{codeOf, nodesOf}
-use Rattle.warrant.specs.Calls.{listIn, listVerdict, front, unlessRefused, listTable, queryVerdict, answeredBy}
-use Rattle.warrant.specs.Calls.{queried, queryArguments}
-use Rattle.warrant.specs.Calls.{nodesAfter, zeroed, queryColumn, queryTable, packed, hostCall, answeredNumber}
+use Rattle.calls.specs.Calls.{listIn, listVerdict, front, unlessRefused, listTable, queryVerdict, answeredBy}
+use Rattle.calls.specs.Calls.{queried, queryArguments}
+use Rattle.calls.specs.Calls.{nodesAfter, zeroed, queryColumn, queryTable, packed, hostCall, answeredNumber}
 use Rattle.nodes.proofs.Rows.{front-length}
 use Rattle.answer.proofs.Answers.{entries-count, answer-not-refused, answer-nodes-within}
-use Rattle.warrant.proofs.Refusals.{isCause, ByCause, accepted, refused, cause-cases, query-cause, list-accepted}
-use Rattle.warrant.proofs.Refusals.{query-accepted}
+use Rattle.calls.proofs.Refusals.{isCause, ByCause, accepted, refused, cause-cases, query-cause, list-accepted}
+use Rattle.calls.proofs.Refusals.{query-accepted}
 
 -- ---- a code of an answer is the answer's, and nothing refused it
 

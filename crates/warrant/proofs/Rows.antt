@@ -22,10 +22,10 @@ use Rattle.answer.proofs.Answers.{entries-count, answer-nodes-within}
 use Rattle.nodes.specs.declared.Node.{Node}
 use Rattle.nodes.specs.Rows.{rows}
 use Rattle.nodes.proofs.Rows.{rows-of}
-use Rattle.warrant.specs.Calls.{front, queryVerdict, answeredBy, queried, nodesAfter, nodeOf, zeroed, queryColumn}
-use Rattle.warrant.specs.Calls.{queryNodes}
+use Rattle.calls.specs.Calls.{front, queryVerdict, answeredBy, queried, nodesAfter, nodeOf, zeroed, queryColumn}
+use Rattle.calls.specs.Calls.{queryNodes}
 use Rattle.warrant.specs.Columns.{queryColumns}
-use Rattle.warrant.proofs.Refusals.{query-accepted}
+use Rattle.calls.proofs.Refusals.{query-accepted}
 use Rattle.warrant.proofs.Calls.{map-replicate}
 
 -- ---- what an answer leaves

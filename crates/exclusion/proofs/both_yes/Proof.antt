@@ -42,7 +42,7 @@ use denote.Exit.{yes}
 use denote.Signature.{plain}
 use Rattle.lists.proofs.Locals.{var, gets, sliced, frees-cell}
 use Rattle.nodes.specs.declared.Node.{Node}
-use Rattle.warrant.specs.Calls.{Call, literalAsked}
+use Rattle.calls.specs.Calls.{Call, literalAsked}
 use Rattle.warrant.proofs.Asking.{Words, Nodes, v}
 use Rattle.nodes.proofs.Node as node
 use Rattle.exclusion.specs.Exclusion.{callOf, saysYes, TwoCalls}

@@ -48,7 +48,7 @@ use Rattle.answer.specs.declared.Answer.{Answer}
 use Rattle.answer.proofs.Answer as answer
 use Rattle.answer.proofs.Answer.Laws as answer-laws
 use Rattle.nodes.specs.declared.Node.{Node}
-use Rattle.warrant.specs.Calls.{queried, packed, hostCall}
+use Rattle.calls.specs.Calls.{queried, packed, hostCall}
 use Rattle.warrant.proofs.Asking.{Words, Asked, v, Query-says, Query, calls-query}
 use Rattle.warrant.proofs.Calls.{query-packs}
 use Rattle.nodes.proofs.Node as node

@@ -49,7 +49,7 @@ use Rattle.answer.specs.Answer.{nodesOf}
 use Rattle.answer.proofs.Answer as answer
 use Rattle.answer.proofs.Answer.Laws as answer-laws
 use Rattle.nodes.specs.declared.Node.{Node}
-use Rattle.warrant.specs.Calls.{front, queried, queryArguments, queryNodes}
+use Rattle.calls.specs.Calls.{front, queried, queryArguments, queryNodes}
 use Rattle.warrant.specs.Columns.{queryColumns}
 use Rattle.nodes.specs.Rows.{rows}
 use Rattle.warrant.proofs.Rows.{query-nodes-within, query-rows}

@@ -20,7 +20,7 @@ use Rattle.layout.specs.Causes.{badSeventeenth, badRepeat, badPairs, badPair, b
 use Rattle.layout.specs.Causes.{partVerdict, ruleVerdict, rulesVerdict, pairVerdict, pairsVerdict, verdict}
 use Rattle.layout.specs.Reading.{programIn}
 use Rattle.derivation.specs.Closure.{contradictory}
-use Rattle.warrant.specs.Calls.{checkImage, listIn, listVerdict, queryVerdict}
+use Rattle.calls.specs.Calls.{checkImage, listIn, listVerdict, queryVerdict}
 
 -- ---- the number of a refusal
 

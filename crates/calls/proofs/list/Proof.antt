@@ -9,12 +9,12 @@ use Rattle.argument.proofs.Tables.{limits-numbered}
 use Rattle.layout.specs.declared.Verdict.the-variants.{Accepted}
 use Rattle.layout.specs.Reading.{programIn}
 use Rattle.image.proofs.Accepted.{accepted-limits}
-use Rattle.warrant.specs.Calls.{checkImage}
-use Rattle.warrant.proofs.Refusals.{check-accepted}
-use Rattle.warrant.proofs.Listings.{list-refused, list-over, list-count}
+use Rattle.calls.specs.Calls.{checkImage}
+use Rattle.calls.proofs.Refusals.{check-accepted}
+use Rattle.calls.proofs.Listings.{list-refused, list-over, list-count}
 use borrow.Author.Needs.{needs}
-use Rattle.warrant.proofs.list.Statement.{statement}
-use Rattle.warrant.proofs.list.Tie as tie
+use Rattle.calls.proofs.list.Statement.{statement}
+use Rattle.calls.proofs.list.Tie as tie
 
 within-limits : (s : List ℕ) → checkImage s ≡ Accepted → Limits (programIn s)
 within-limits s e = accepted-limits s (check-accepted s e .0)

@@ -14,8 +14,8 @@ use Rattle.argument.specs.Listing.{listed as listedIn, withList}
 use Rattle.layout.specs.declared.Verdict.{Verdict}
 use Rattle.layout.specs.declared.Verdict.the-variants as verdicts
 use Rattle.layout.specs.Causes.{refuse, andThen}
-use Rattle.warrant.specs.declared.Listed.the-variants as lists
-use Rattle.warrant.specs.Calls.{checkImage, listIn, listVerdict, listedBy, listed, front, unlessRefused, listTable}
+use Rattle.calls.specs.declared.Listed.the-variants as lists
+use Rattle.calls.specs.Calls.{checkImage, listIn, listVerdict, listedBy, listed, front, unlessRefused, listTable}
 
 module _ (s table : List ℕ) where
   list-by : (v : Verdict) (b : Bool) → checkImage s ≡ v → ltb (length table) (length (listIn s)) ≡ b → listVerdict s (length table) ≡ andThen v (refuse b 23 0)

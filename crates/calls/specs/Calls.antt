@@ -15,8 +15,8 @@ use Rattle.argument.specs.List.{argumentList}
 use Rattle.tree.specs.Entries.{Entry}
 use Rattle.answer.specs.declared.Answer.{Answer}
 use Rattle.answer.specs.declared.Answer.the-variants.{Yes, No, Undecided, Unknown, Unfinished, Refused}
-use Rattle.warrant.specs.declared.Listed.{Listed}
-use Rattle.warrant.specs.declared.Listed.the-variants as lists
+use Rattle.calls.specs.declared.Listed.{Listed}
+use Rattle.calls.specs.declared.Listed.the-variants as lists
 use Rattle.nodes.specs.declared.Node.{Node}
 pub use Rattle.nodes.specs.Rows.{nodeOf}
 pub use Rattle.answer.specs.Tables.{front, nodesAfter, zeroed, columnAfter}

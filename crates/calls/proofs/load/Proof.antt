@@ -15,11 +15,11 @@ use Rattle.layout.specs.declared.Verdict.the-variants.{Accepted, Refused}
 use Rattle.layout.specs.Causes.{refuse, andThen, verdict}
 use Rattle.layout.specs.Reading.{programIn}
 use Rattle.image.proofs.Accepted.{accepted-limits, loaded-holds}
-use Rattle.warrant.specs.Calls.{checkImage}
+use Rattle.calls.specs.Calls.{checkImage}
 use native.Mathlib.Omega.{arith}
 use borrow.Author.Needs.{needs}
-use Rattle.warrant.proofs.load.Statement.{statement}
-use Rattle.warrant.proofs.load.Tie as tie
+use Rattle.calls.proofs.load.Statement.{statement}
+use Rattle.calls.proofs.load.Tie as tie
 
 module _ (s : List ℕ) where
   -- causes 1 to 13, then 14 by its test
