@@ -24,6 +24,7 @@ use Rattle.answer.specs.Answer.{occurs, nodeCount, forestEntries, warranted, an
 use Rattle.answer.specs.Tables.{front, columnsAfter, cleared, clearedIf}
 use Rattle.decision.specs.Steps.{Held, Asked, Listing, Decidable, Decided}
 use Rattle.answer.proofs.Answers.{entries-count}
+use Rattle.outcome.proofs.Concluded.{Concluded}
 
 -- ---- the tables that the forest is built from
 
@@ -60,20 +61,6 @@ module _ {table : List ℕ} (w : Held table) {closures arguments : List ℕ} {co
 pub built-small : {es : List Entry} {at limit r : ℕ} {before after : Columns} → Built es at limit r before after → r ≤ limit + 1
 built-small (Built.fits e h k) = omega arith
 built-small (Built.over e h k) = omega arith
-
--- ---- what is concluded from the number of nodes and the roots
-
-abbrev pub Concluded : (budget nodes : ℕ) (won lost : Bool) (r : Answer) (before after : Columns) → Type 0
-Concluded b nodes won lost r before after =
-    (r ≡ answerOf true (ltb b nodes) won lost b nodes) × (after ≡ clearedIf (ltb b nodes) b before)
-
-pub concluded-over : (b nodes : ℕ) (won lost : Bool) (before after : Columns) → b < nodes → after ≡ cleared b before
-    → Concluded b nodes won lost (Unfinished b) before after
-concluded-over b nodes won lost before after more e = rw (lt-ltb b nodes more) (refl, e)
-
-pub concluded-within : (b nodes : ℕ) (won lost w m : Bool) (before : Columns) → nodes ≤ b → won ≡ w → lost ≡ m
-    → Concluded b nodes won lost (answerOf true false w m b nodes) before before
-concluded-within b nodes won lost w m before within e f = rw (le-ltb b nodes within, e, f) (refl, refl)
 
 -- ---- the answer
 

@@ -1,14 +1,9 @@
-// From the argument list to the answer: the forest in the four tables, or zeros where it has more nodes than the budget.
-ghost use Prim.Native.Nat.{_≤_, _<_};
-ghost use mathlib.Core.Path.{_≡_};
-ghost use mathlib.Core.Bool.{true};
-ghost use lib.Dec.{ltb};
+// From the argument list to the answer: the forest in the four tables, then its outcome.
 ghost use Rattle.program.specs.Table.{bitCount};
 ghost use Rattle.argument.specs.Closures.{Room};
-ghost use Rattle.tree.specs.Tables.{columns, Hold};
+ghost use Rattle.tree.specs.Tables.{columns};
 ghost use Rattle.tree.specs.Roots.{ForestBuilt};
-ghost use Rattle.answer.specs.Answer.{answerOf, tests};
-ghost use Rattle.answer.specs.Tables.{cleared as «clearedTo», clearedIf};
+ghost use Rattle.answer.specs.Answer.{tests};
 ghost use Rattle.decision.specs.Steps.{Held, Asked, Listing, Decidable, Decided, Settles};
 use crate::occurrence::occurs;
 use answer::Answer;
@@ -89,7 +84,7 @@ fn decide(
         kinds,
         marks,
     );
-    conclude(grown, budget, indexes, parents, kinds, marks)
+    outcome::conclude(grown, budget, indexes, parents, kinds, marks)
 }
 
 // Writes the forest, with tables of its own for the exclusion sets and the line.
@@ -130,50 +125,4 @@ fn grow(
         kinds,
         marks,
     )
-}
-
-// The answer from the forest; with more nodes than the budget the entries are zeroed.
-fn conclude(
-    grown: Grown,
-    budget: u32,
-    indexes: &mut [u32],
-    parents: &mut [u32],
-    kinds: &mut [u8],
-    marks: &mut [u8],
-) -> Answer
-    requires { ⌜ grown .nodes ≤ 4097 ⌝ }
-    requires { ⌜ Hold budget (columns (now indexes) (now parents) (now kinds) (now marks)) ⌝ }
-    ensures answer { λ r. ⌜ r ≡ answerOf true (ltb budget (grown .nodes)) (grown .won) (grown .lost) budget (grown .nodes) ⌝ }
-    ensures nodes { λ _. ⌜ columns (now (indexes .exit)) (now (parents .exit)) (now (kinds .exit)) (now (marks .exit))
-        ≡ clearedIf (ltb budget (grown .nodes)) budget
-        (columns (now (indexes .entry)) (now (parents .entry)) (now (kinds .entry)) (now (marks .entry))) ⌝ }
-{
-    let nodes = grown.nodes as u32;
-    if budget < nodes {
-        clear(indexes, parents, kinds, marks, budget as usize);
-        return Answer::Unfinished { nodes: budget };
-    }
-    if grown.won {
-        return Answer::Yes { nodes: nodes };
-    }
-    if grown.lost {
-        return Answer::No { nodes: nodes };
-    }
-    Answer::Undecided { nodes: nodes }
-}
-
-// Zeroes the first n entries.
-fn clear(indexes: &mut [u32], parents: &mut [u32], kinds: &mut [u8], marks: &mut [u8], n: usize)
-    requires { ⌜ Hold n (columns (now indexes) (now parents) (now kinds) (now marks)) ⌝ }
-    ensures { λ _. ⌜ columns (now (indexes .exit)) (now (parents .exit)) (now (kinds .exit)) (now (marks .exit))
-        ≡ clearedTo n (columns (now (indexes .entry)) (now (parents .entry)) (now (kinds .entry)) (now (marks .entry))) ⌝ }
-{
-    let mut i: usize = 0;
-    while i < n {
-        indexes[i] = 0;
-        parents[i] = 0;
-        kinds[i] = 0;
-        marks[i] = 0;
-        i += 1;
-    }
 }

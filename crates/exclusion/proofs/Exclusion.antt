@@ -10,7 +10,7 @@ use Rattle.literals.proofs.Tests.{not-true-false}
 use Rattle.layout.specs.Reading.{programIn}
 use Rattle.defeat.specs.OfProgram.{Exclude}
 use Rattle.answer.specs.Answer.{codeOf}
-use Rattle.warrant.specs.Calls.{queried, hostCall, answeredNumber, Call, query, host, probe, literalAsked, SaysYes}
+use Rattle.calls.specs.Calls.{queried, hostCall, answeredNumber, Call, query, host, probe, literalAsked, SaysYes}
 use Rattle.warrant.proofs.Claims.{demand-3}
 use Rattle.exclusion.specs.Exclusion.{callOf, saysYes, TwoCalls}
 

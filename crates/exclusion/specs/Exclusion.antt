@@ -8,7 +8,7 @@ use Rattle.lists.specs.Decides.{Decides}
 use Rattle.layout.specs.Reading.{programIn}
 use Rattle.defeat.specs.OfProgram.{Exclude}
 use Rattle.answer.specs.Answer.{codeOf}
-use Rattle.warrant.specs.Calls.{queried, hostCall, answeredNumber, Call, query, host, probe, SaysYes}
+use Rattle.calls.specs.Calls.{queried, hostCall, answeredNumber, Call, query, host, probe, SaysYes}
 
 -- "any call that gives a literal's answer, as these two do": the call from C, or the query with tables of these lengths
 abbrev pub callOf : Bool → (literal budget argumentRoom nodeRoom : ℕ) → Call

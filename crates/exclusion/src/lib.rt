@@ -7,7 +7,7 @@ ghost use lib.ListN.{length};
 ghost use Rattle.answer.specs.Answer.{codeOf};
 ghost use Rattle.exclusion.specs.Exclusion.{callOf, saysYes, TwoCalls};
 use answer::Answer;
-use warrant::Node;
+use nodes::Node;
 
 // Whether an answer is YES.
 fn is_yes(answer: Answer) -> bool

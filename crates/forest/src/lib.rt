@@ -1,5 +1,4 @@
-// Dialectical trees built: supporter and objector take turns down every line, and the forest of a literal has the trees of
-// its arguments and of its complement's. What is written is defined in the crate `tree`.
+// Dialectical trees built: the forest of a literal has the trees of its arguments and of its complement's, each written by
+// the steps of crate `turns`. What is written is defined in the crate `tree`.
 
 pub mod roots;
-mod turns;

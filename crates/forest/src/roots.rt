@@ -9,9 +9,9 @@ ghost use Rattle.derivation.specs.Derivation.{complement as «complementOf»};
 ghost use Rattle.tree.specs.Tables.{columns};
 ghost use Rattle.tree.specs.Steps.{Prepared, testsIn};
 ghost use Rattle.tree.specs.Roots.{RootsReady, FirstFor, TreesBuilt, ForestBuilt};
-use crate::turns::supporter;
 use argument::numbers::literal_of;
 use program::RuleTable;
+use turns::supporter;
 
 // The next free node number, and whether some root is marked U.
 pub struct Rooted {

@@ -1,9 +1,9 @@
 // The call from the host program in C.
 ghost use mathlib.Core.Path.{_≡_};
 ghost use Prim.Native.Nat.{_<_};
-ghost use Rattle.warrant.specs.Calls.{packed, hostCall};
+ghost use Rattle.calls.specs.Calls.{packed, hostCall};
 use answer::Answer;
-use warrant::Node;
+use nodes::Node;
 
 // An answer as one number: code * 65,536 + nodes, or a cause's bare number.
 fn pack(answer: Answer) -> u32

@@ -5,8 +5,8 @@ use lib.Count.{ones}
 use Rattle.literals.specs.Sets.{union}
 use Rattle.program.specs.Program.{Rule, Π-mask}
 use Rattle.derivation.specs.Closure.{closure}
-use Rattle.warrant.specs.declared.Listed.{Listed}
-use Rattle.warrant.specs.declared.Listed.the-variants as lists
+use Rattle.calls.specs.declared.Listed.{Listed}
+use Rattle.calls.specs.declared.Listed.the-variants as lists
 use Rattle.layout.specs.Causes.{verdict}
 use Rattle.layout.specs.Reading.{programIn}
 use Rattle.layout.specs.declared.Verdict.{Verdict}

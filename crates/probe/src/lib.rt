@@ -1,13 +1,13 @@
 // Exports of the calls for tests and benchmarks from outside.
 ghost use mathlib.Core.Path.{_≡_};
 ghost use lib.ListN.{length};
-ghost use Rattle.warrant.specs.Calls.{checkImage, listed, listTable, queried, queryArguments, queryNodes, answeredNumber};
+ghost use Rattle.calls.specs.Calls.{checkImage, listed, listTable, queried, queryArguments, queryNodes, answeredNumber};
 ghost use Rattle.probe.specs.Probe.{verdictNumber, listedNumber, closedNumber};
 use answer::Answer;
 use layout::Verdict;
 use literals::LiteralSet;
+use nodes::Node;
 use warrant::Listed;
-use warrant::Node;
 
 // 0 where the image is accepted, else number * 2^32 + place.
 #[no_mangle]

@@ -44,10 +44,10 @@ use Rattle.lists.proofs.Locals.{var, gets, sliced, frees-cell}
 use Rattle.answer.specs.declared.Answer.{Answer}
 use Rattle.answer.proofs.Answer as answer
 use Rattle.answer.proofs.Answer.Laws as answer-laws
-use Rattle.warrant.specs.declared.Node.{Node}
-use Rattle.warrant.specs.Calls.{queried, queryArguments, queryNodes}
-use Rattle.warrant.proofs.Node as node
-use Rattle.warrant.proofs.Node.Laws as node-laws
+use Rattle.nodes.specs.declared.Node.{Node}
+use Rattle.calls.specs.Calls.{queried, queryArguments, queryNodes}
+use Rattle.nodes.proofs.Node as node
+use Rattle.nodes.proofs.Node.Laws as node-laws
 use Rattle.warrant.proofs.query as query
 use Rattle.warrant.proofs.query.Symbol as query-symbol
 

@@ -7,7 +7,7 @@ use mathlib.Core.Logic.{_⊎_, inl, inr, _↔_}
 use Prim.Native.Nat.{ℕ, zero, suc, _/_, _%_, _≤_, _<_}
 use native.Mathlib.Nat.{le-trans}
 use native.Mathlib.Omega.{arith}
-use lib.ListN.{length, drop, replicate, length-append, length-drop, length-map, length-replicate}
+use lib.ListN.{length, drop, replicate, length-map, length-replicate}
 use lib.Dec.{T, ltb, nltb→le}
 use Rattle.program.specs.Program.{Program}
 use Rattle.layout.specs.declared.Verdict.{Verdict}
@@ -21,12 +21,13 @@ use Rattle.answer.specs.declared.Answer.{Answer}
 use Rattle.answer.specs.declared.Answer.the-variants.{Yes, No, Undecided, Unknown, Unfinished, Refused}
 use Rattle.answer.specs.Answer.{occurs, forestEntries, nodeCount, warranted, answerOf, answerBy, tests, answer}
 use Rattle.answer.specs.Answer.{codeOf, nodesOf}
-use Rattle.warrant.specs.Calls.{listIn, listVerdict, front, unlessRefused, listTable, queryVerdict, answeredBy}
-use Rattle.warrant.specs.Calls.{queried, queryArguments}
-use Rattle.warrant.specs.Calls.{nodesAfter, zeroed, queryColumn, queryTable, packed, hostCall, answeredNumber}
+use Rattle.calls.specs.Calls.{listIn, listVerdict, front, unlessRefused, listTable, queryVerdict, answeredBy}
+use Rattle.calls.specs.Calls.{queried, queryArguments}
+use Rattle.calls.specs.Calls.{nodesAfter, zeroed, queryColumn, queryTable, packed, hostCall, answeredNumber}
+use Rattle.nodes.proofs.Rows.{front-length}
 use Rattle.answer.proofs.Answers.{entries-count, answer-not-refused, answer-nodes-within}
-use Rattle.warrant.proofs.Refusals.{isCause, ByCause, accepted, refused, cause-cases, query-cause, list-accepted}
-use Rattle.warrant.proofs.Refusals.{query-accepted}
+use Rattle.calls.proofs.Refusals.{isCause, ByCause, accepted, refused, cause-cases, query-cause, list-accepted}
+use Rattle.calls.proofs.Refusals.{query-accepted}
 
 -- ---- a code of an answer is the answer's, and nothing refused it
 
@@ -130,9 +131,6 @@ module _ (s : List ℕ) (h b : ℕ) where
 -- ---- lent tables keep their length
 
 module _ {A : Type 0} where
-  pub front-length : (l table : List A) → length l ≤ length table → length (front l table) ≡ length table
-  front-length l table h = simp (length-append, length-drop) (omega arith)
-
   unless-length : (v : Verdict) (l table : List A) → (v ≡ verdicts.Accepted → length l ≤ length table)
       → length (unlessRefused v (front l table) table) ≡ length table
   unless-length verdicts.Accepted l table f = front-length l table (f refl)

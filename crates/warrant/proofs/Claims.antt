@@ -21,15 +21,15 @@ use Rattle.defeat.specs.Preference.{Preferred, preferredTest}
 use Rattle.defeat.specs.OfProgram.{Exclude}
 use Rattle.defeat.proofs.Preferences.{preferred-renders}
 use Rattle.answer.specs.Answer.{tests, answer, codeOf}
-use Rattle.warrant.specs.Calls.{checkImage, queryVerdict, answeredBy, queried, Call, query, host, probe, literalAsked}
-use Rattle.warrant.specs.Calls.{SaysYes}
+use Rattle.calls.specs.Calls.{checkImage, queryVerdict, answeredBy, queried, Call, query, host, probe, literalAsked}
+use Rattle.calls.specs.Calls.{SaysYes}
 use Rattle.warrant.specs.Claims.{Answers, Grants, Demand-3}
 use Rattle.answer.proofs.Forests.{forest-published, entries-published}
 use Rattle.answer.proofs.Warrant.{warranted-apart}
 use Rattle.answer.proofs.Answers.{entries-count, answer-unknown, answer-unfinished, answer-nodes-finished}
 use Rattle.answer.proofs.Answers.{answer-nodes-unfinished, answer-nodes-unknown}
 use Rattle.answer.proofs.Answers.{answer-yes, answer-no, answer-undecided}
-use Rattle.warrant.proofs.Refusals.{check-accepted, check-passes, query-accepted}
+use Rattle.calls.proofs.Refusals.{check-accepted, check-passes, query-accepted}
 use Rattle.warrant.proofs.Calls.{answered-code, host-code, probe-yes}
 
 -- a program within the limits has heads below 128

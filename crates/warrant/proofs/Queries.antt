@@ -21,10 +21,10 @@ use Rattle.answer.specs.Answer.{tests, forestEntries, answer}
 use Rattle.answer.specs.Tables.{front, columnsAfter}
 use Rattle.decision.specs.Steps.{Held, settled, Settled}
 use Rattle.argument.specs.Listing.{withList}
-use Rattle.warrant.specs.Calls.{checkImage, listIn, queryVerdict, answeredBy, queried, unlessRefused, queryArguments}
-use Rattle.warrant.specs.Calls.{queryColumn}
+use Rattle.calls.specs.Calls.{checkImage, listIn, queryVerdict, answeredBy, queried, unlessRefused, queryArguments}
+use Rattle.calls.specs.Calls.{queryColumn}
 use Rattle.warrant.specs.Columns.{queryColumns}
-use Rattle.warrant.proofs.Refusals.{check-accepted}
+use Rattle.calls.proofs.Refusals.{check-accepted}
 
 -- an accepted image's program is within the limits
 abbrev pub held-in : (s t : List ℕ) → checkImage s ≡ verdicts.Accepted → Holds (programIn s) t → Held t

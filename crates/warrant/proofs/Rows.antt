@@ -1,22 +1,17 @@
--- Rows at the front of the node table, written one at a time; and that the rows which the query over columns leaves, as
--- many as its answer names, are the entries of the node table. Assumes nothing.
+-- The rows which the query over columns leaves, as many as its answer names, are the entries of the node table. Assumes
+-- nothing.
 use mathlib.Core.Path.{_≡_, refl, sym, ap, _∙_}
 use mathlib.Core.Bool.{Bool, true, false}
-use mathlib.Core.List.{List, [], _∷_, _++_, map, map-append}
-use Prim.Native.Nat.{ℕ, suc, _+_, _≤_, _<_}
+use mathlib.Core.List.{List, [], map}
+use Prim.Native.Nat.{ℕ, _≤_}
 use native.Mathlib.Nat.{le-trans}
 use native.Mathlib.Omega.{arith}
-use lib.ListN.{length, drop, getD, set, replicate, length-map, length-replicate}
-use lib.Seq.{drop-cons, append-snoc, set-at}
+use lib.ListN.{length, replicate, length-replicate}
 use lib.Dec.{ltb}
-use Rattle.lists.specs.Lists.{upto}
-use Rattle.lists.proofs.Lists.{upto-length, upto-last, upto-shift}
-use Rattle.program.specs.Program.{Program}
 use Rattle.layout.specs.declared.Verdict.{Verdict}
 use Rattle.layout.specs.declared.Verdict.the-variants as verdicts
 use Rattle.layout.specs.Reading.{programIn}
 use Rattle.derivation.specs.Derivation.{complement}
-use Rattle.defeat.specs.Tests.{Tests}
 use Rattle.defeat.specs.Preference.{preferredTest}
 use Rattle.tree.specs.Entries.{Entry}
 use Rattle.tree.specs.Tables.{Columns, columns}
@@ -24,49 +19,14 @@ use Rattle.answer.specs.declared.Answer.{Answer}
 use Rattle.answer.specs.declared.Answer.the-variants.{Yes, No, Undecided, Unknown, Unfinished, Refused}
 use Rattle.answer.specs.Answer.{occurs, forestEntries, nodeCount, warranted, answerOf, answerBy, tests, answer, nodesOf}
 use Rattle.answer.proofs.Answers.{entries-count, answer-nodes-within}
-use Rattle.warrant.specs.declared.Node.{Node}
-use Rattle.warrant.specs.Calls.{front, queryVerdict, answeredBy, queried, nodesAfter, nodeOf, zeroed, queryColumn}
-use Rattle.warrant.specs.Calls.{queryNodes}
+use Rattle.nodes.specs.declared.Node.{Node}
+use Rattle.nodes.specs.Rows.{rows}
+use Rattle.nodes.proofs.Rows.{rows-of}
+use Rattle.calls.specs.Calls.{front, queryVerdict, answeredBy, queried, nodesAfter, nodeOf, zeroed, queryColumn}
+use Rattle.calls.specs.Calls.{queryNodes}
 use Rattle.warrant.specs.Columns.{queryColumns}
-use Rattle.warrant.specs.Rows.{rowAt, rows}
-use Rattle.warrant.proofs.Refusals.{query-accepted}
-use Rattle.warrant.proofs.Calls.{front-length, map-replicate}
-
--- ---- rows at the front of a table
-
-module _ (t : Columns) where
-  rows-length : (n : ℕ) → length (rows n t) ≡ n
-  rows-length n = length-map (upto 0 n) (rowAt t) ∙ upto-length 0 n
-
-  rows-last : (n : ℕ) → rows (suc n) t ≡ rows n t ++ (rowAt t n ∷ [])
-  rows-last n =
-      let e : 0 + n ≡ n = omega arith in
-      ap (map (rowAt t)) (upto-last 0 n ∙ ap (λ m. upto 0 n ++ (m ∷ [])) e) ∙ map-append (rowAt t) (upto 0 n) (n ∷ [])
-
-  module _ (table : List Node) where
-    pub front-rows-length : (n : ℕ) → n ≤ length table → length (front (rows n t) table) ≡ length table
-    front-rows-length n h = front-length (rows n t) table (rw (rows-length n) h)
-
-    -- the next row is stored behind those that stand there
-    pub front-rows-next : (n : ℕ) → n < length table
-        → set (front (rows n t) table) n (rowAt t n) ≡ front (rows (suc n) t) table
-    front-rows-next n h =
-        let r = rowAt t n in
-        ap (λ m. set (rows n t ++ drop m table) n r) (rows-length n)
-        ∙ ap (λ l. set (rows n t ++ l) n r) (drop-cons table n (nodeOf zeroed) h)
-        ∙ set-at (rows n t) (getD table n (nodeOf zeroed)) (drop (suc n) table) r n (rows-length n)
-        ∙ sym (append-snoc (rows n t) r (drop (suc n) table))
-        ∙ ap (λ m. (rows n t ++ (r ∷ [])) ++ drop m table) (sym (rows-length (suc n)))
-        ∙ ap (λ l. l ++ drop (length (rows (suc n) t)) table) (sym (rows-last n))
-
--- ---- the entries' fields in four tables are the entries
-
-rows-of : (es : List Entry) (a p k m : List ℕ)
-    → rows (length es) (columns (map (λ e. e .argument) es ++ a) (map (λ e. e .parent) es ++ p)
-    (map (λ e. e .kind) es ++ k) (map (λ e. e .mark) es ++ m))
-    ≡ map nodeOf es
-rows-of [] a p k m = refl
-rows-of (e ∷ es) a p k m = ap (λ l. nodeOf e ∷ l) (upto-shift _ 0 (length es) ∙ rows-of es a p k m)
+use Rattle.calls.proofs.Refusals.{query-accepted}
+use Rattle.warrant.proofs.Calls.{map-replicate}
 
 -- ---- what an answer leaves
 

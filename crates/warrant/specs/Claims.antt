@@ -17,7 +17,7 @@ use Rattle.tree.specs.Entries.{Entry}
 use Rattle.tree.specs.Published.{ForestFor, EntriesFor}
 use Rattle.answer.specs.Warrant.{WarrantedBy, Warranted}
 use Rattle.answer.specs.Answer.{Occurs, forest, nodeCount, forestEntries, tests, answer, codeOf, nodesOf}
-use Rattle.warrant.specs.Calls.{queryVerdict, Call, query, host, probe, literalAsked, SaysYes}
+use Rattle.calls.specs.Calls.{queryVerdict, Call, query, host, probe, literalAsked, SaysYes}
 
 -- ---- the answers
 

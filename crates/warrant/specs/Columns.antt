@@ -2,7 +2,7 @@
 use mathlib.Core.List.{List}
 use Prim.Native.Nat.{ℕ}
 use Rattle.tree.specs.Tables.{Columns, columns}
-use Rattle.warrant.specs.Calls.{queryColumn}
+use Rattle.calls.specs.Calls.{queryColumn}
 
 -- what the query leaves in them, beside a node table of so many entries
 abbrev pub queryColumns : List ℕ → (literal budget argumentRoom nodeRoom : ℕ) → Columns → Columns

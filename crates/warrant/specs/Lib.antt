@@ -1,5 +1,3 @@
--- The calls, in the order of document 01; then what is claimed of them, and the query over tables of numbers.
-pub mod Calls
+-- What is claimed of the calls, and the query over tables of numbers.
 pub mod Claims
 pub mod Columns
-pub mod Rows

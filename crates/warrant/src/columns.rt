@@ -2,7 +2,7 @@
 ghost use mathlib.Core.Path.{_≡_};
 ghost use lib.ListN.{length};
 ghost use Rattle.tree.specs.Tables.{columns, Hold};
-ghost use Rattle.warrant.specs.Calls.{queried, queryArguments};
+ghost use Rattle.calls.specs.Calls.{queried, queryArguments};
 ghost use Rattle.warrant.specs.Columns.{queryColumns};
 use answer::Answer;
 use layout::Verdict;
@@ -27,7 +27,7 @@ pub fn query<'i, 'a, 't>(
         (columns (now (indexes .entry)) (now (parents .entry)) (now (kinds .entry)) (now (marks .entry)))) ⌝ }
 {
     let mut table = [0u64; 419];
-    if let Verdict::Refused { number, place } = crate::load(image, &mut table) {
+    if let Verdict::Refused { number, place } = calls::load(image, &mut table) {
         return Answer::Refused { number, place };
     }
     if 128 <= literal {

@@ -1,75 +1,15 @@
-// Warrant: what the calls answer, and what they leave in the lent tables. specs/ has the definitions, proofs/ the theorems.
+// Warrant: what the calls answer, and what they leave in the lent tables. Crate `calls` has the definitions of the calls,
+// specs/ what is claimed of them, proofs/ the theorems.
 ghost use mathlib.Core.Path.{_≡_};
 ghost use lib.ListN.{length};
-ghost use Rattle.program.specs.Table.{Holds};
-ghost use Rattle.layout.specs.Reading.{programIn};
-ghost use Rattle.warrant.specs.Calls.{checkImage, listed, listTable};
-ghost use Rattle.warrant.specs.Calls.{queried, queryArguments, queryNodes};
+ghost use Rattle.calls.specs.Calls.{queried, queryArguments, queryNodes};
 use answer::Answer;
-use layout::Verdict;
-use literals::LiteralSet;
-use program::RuleTable;
+pub use calls::Listed;
+pub use calls::check;
+pub use calls::list;
+use nodes::Node;
 
 mod columns;
-mod nodes;
-
-// The number of arguments, or the number and place of the first cause that applies.
-pub enum Listed {
-    Count(u32),
-    Refused { number: u32, place: u32 },
-}
-
-// A node of a dialectical tree: its argument's index in the argument list, its parent's node number, its kind, its mark.
-// In C's layout, since tests lend such a table from outside.
-#[repr(C)]
-pub struct Node {
-    pub argument: u32,
-    pub parent: u32,
-    pub kind: u8,
-    pub mark: u8,
-}
-
-// The first of causes 1 to 14 that applies to an image.
-pub fn check(image: &[u8]) -> Verdict
-    ensures { λ r. ⌜ r ≡ checkImage (now (image .entry)) ⌝ }
-{
-    let mut table = [0u64; 419];
-    load(image, &mut table)
-}
-
-// Reads an image into the rule table: the first of causes 1 to 14 that applies.
-fn load(image: &[u8], table: &mut RuleTable) -> Verdict
-    requires { ⌜ length (now table) ≡ 419 ⌝ }
-    ensures { λ r. ⌜ (r ≡ checkImage (now (image .entry))) × (checkImage (now (image .entry)) ≡ Verdict.Accepted → Holds (programIn (now (image .entry))) (now (table .exit))) ⌝ }
-{
-    if let Verdict::Refused { number, place } = image::read(image, table) {
-        return Verdict::Refused { number, place };
-    }
-    if derivation::close(table, 0, LiteralSet::empty()).contradictory() {
-        return Verdict::Refused {
-            number: 14,
-            place: 0,
-        };
-    }
-    Verdict::Accepted
-}
-
-// The argument list of an image's program in the lent table: their number, or the first of causes 1 to 14 and 23.
-pub fn list(image: &[u8], arguments: &mut [u32]) -> Listed
-    ensures { λ r. ⌜ (r ≡ listed (now (image .entry)) (length (now (arguments .entry)))) × (now (arguments .exit) ≡ listTable (now (image .entry)) (now (arguments .entry))) ⌝ }
-{
-    let mut table = [0u64; 419];
-    if let Verdict::Refused { number, place } = load(image, &mut table) {
-        return Listed::Refused { number, place };
-    }
-    match listing::list(&table, arguments) {
-        argument::Listed::Count(count) => Listed::Count(count),
-        argument::Listed::Over => Listed::Refused {
-            number: 23,
-            place: 0,
-        },
-    }
-}
 
 // A literal's answer, the argument list and the forest in the lent tables; or the first cause that applies.
 pub fn query(

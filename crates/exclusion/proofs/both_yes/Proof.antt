@@ -41,10 +41,10 @@ use denote.Triple.Walked.{goes-gave-slice, Walks, ends-at, walked, walk-meets}
 use denote.Exit.{yes}
 use denote.Signature.{plain}
 use Rattle.lists.proofs.Locals.{var, gets, sliced, frees-cell}
-use Rattle.warrant.specs.declared.Node.{Node}
-use Rattle.warrant.specs.Calls.{Call, literalAsked}
+use Rattle.nodes.specs.declared.Node.{Node}
+use Rattle.calls.specs.Calls.{Call, literalAsked}
 use Rattle.warrant.proofs.Asking.{Words, Nodes, v}
-use Rattle.warrant.proofs.Node as node
+use Rattle.nodes.proofs.Node as node
 use Rattle.exclusion.specs.Exclusion.{callOf, saysYes, TwoCalls}
 use Rattle.exclusion.proofs.Exclusion.{literal-asked, two-calls}
 use Rattle.exclusion.proofs.says_yes as says-yes

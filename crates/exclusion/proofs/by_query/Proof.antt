@@ -13,7 +13,7 @@ use denote.Triple.Spec.{tripleOf}
 use denote.Triple.Table.{entered, cited}
 use Rattle.answer.specs.declared.Answer.{Answer}
 use Rattle.answer.specs.Answer.{codeOf}
-use Rattle.warrant.specs.declared.Node.{Node}
+use Rattle.nodes.specs.declared.Node.{Node}
 use Rattle.warrant.proofs.Asking.{Query, Looks, asks-meets}
 use Rattle.warrant.proofs.query.Symbol as query-symbol
 use Rattle.warrant.proofs.query.Met as query-met

@@ -44,9 +44,9 @@ use denote.Triple.Walked.{goes-gave-slice, Walks, ends-at, walked, walk-meets}
 use denote.Exit.{yes}
 use denote.Signature.{plain}
 use Rattle.lists.proofs.Locals.{var, gets, sliced, frees-cell}
-use Rattle.warrant.specs.declared.Node.{Node}
+use Rattle.nodes.specs.declared.Node.{Node}
 use Rattle.warrant.proofs.Asking.{Words, Nodes, Asked, v, lent, OI, five, vals, Asking, to-asking, goes-asking, comes-back}
-use Rattle.warrant.proofs.Node as node
+use Rattle.nodes.proofs.Node as node
 use Rattle.exclusion.specs.Exclusion.{callOf, saysYes}
 use Rattle.exclusion.proofs.LetGo.{let-go}
 use Rattle.exclusion.proofs.by_host as by-host

@@ -47,12 +47,12 @@ use Rattle.lists.proofs.LocalArrays.{Element, number-element, tableAt, makes-ar
 use Rattle.answer.specs.declared.Answer.{Answer}
 use Rattle.answer.proofs.Answer as answer
 use Rattle.answer.proofs.Answer.Laws as answer-laws
-use Rattle.warrant.specs.declared.Node.{Node}
-use Rattle.warrant.specs.Calls.{queried, packed, hostCall}
+use Rattle.nodes.specs.declared.Node.{Node}
+use Rattle.calls.specs.Calls.{queried, packed, hostCall}
 use Rattle.warrant.proofs.Asking.{Words, Asked, v, Query-says, Query, calls-query}
 use Rattle.warrant.proofs.Calls.{query-packs}
-use Rattle.warrant.proofs.Node as node
-use Rattle.warrant.proofs.Node.Laws as node-laws
+use Rattle.nodes.proofs.Node as node
+use Rattle.nodes.proofs.Node.Laws as node-laws
 use Rattle.warrant.proofs.query.Symbol as query-symbol
 use Rattle.warrant.proofs.query.Met as query-met
 use Rattle.host.proofs.pack as pack

@@ -1,7 +1,7 @@
 -- The number of an answer, by its cases: each fact is the answer's own packed. Assumes nothing.
 use mathlib.Core.Path.{ap}
 use native.Mathlib.Omega.{arith}
-use Rattle.warrant.specs.Calls.{packed}
+use Rattle.calls.specs.Calls.{packed}
 use borrow.Author.Needs.{needs}
 use Rattle.host.proofs.pack.Statement.{statement}
 use Rattle.host.proofs.pack.Tie as tie

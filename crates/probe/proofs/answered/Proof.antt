@@ -1,7 +1,7 @@
 -- The number of an answer, by its cases: each is the answer's own number. Assumes nothing.
 use mathlib.Core.Path.{ap}
 use native.Mathlib.Omega.{arith}
-use Rattle.warrant.specs.Calls.{answeredNumber}
+use Rattle.calls.specs.Calls.{answeredNumber}
 use borrow.Author.Needs.{needs}
 use Rattle.probe.proofs.answered.Statement.{statement}
 use Rattle.probe.proofs.answered.Tie as tie

@@ -10,8 +10,8 @@ use denote.Plain.{uint-makes, uint-lawful}
 use denote.Builtin.{u64}
 use denote.Triple.Spec.{tripleOf}
 use denote.Triple.Table.{entered, cited}
-use Rattle.warrant.specs.declared.Node.{Node}
-use Rattle.warrant.specs.Calls.{queried, queryArguments, queryNodes, answeredNumber}
+use Rattle.nodes.specs.declared.Node.{Node}
+use Rattle.calls.specs.Calls.{queried, queryArguments, queryNodes, answeredNumber}
 use Rattle.warrant.proofs.Asking.{Query, Looks, asks-meets}
 use Rattle.warrant.proofs.query.Symbol as query-symbol
 use Rattle.warrant.proofs.query.Met as query-met

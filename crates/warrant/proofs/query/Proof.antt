@@ -48,22 +48,22 @@ use Rattle.answer.specs.declared.Answer.{Answer}
 use Rattle.answer.specs.Answer.{nodesOf}
 use Rattle.answer.proofs.Answer as answer
 use Rattle.answer.proofs.Answer.Laws as answer-laws
-use Rattle.warrant.specs.declared.Node.{Node}
-use Rattle.warrant.specs.Calls.{front, queried, queryArguments, queryNodes}
+use Rattle.nodes.specs.declared.Node.{Node}
+use Rattle.calls.specs.Calls.{front, queried, queryArguments, queryNodes}
 use Rattle.warrant.specs.Columns.{queryColumns}
-use Rattle.warrant.specs.Rows.{rows}
+use Rattle.nodes.specs.Rows.{rows}
 use Rattle.warrant.proofs.Rows.{query-nodes-within, query-rows}
 use Rattle.warrant.proofs.Asking.{Words, Nodes, Asked, v, lent, OI, OA, ON, lfts, shares, five, vals, Query-says, Looks}
 use Rattle.warrant.proofs.Asking.{to-looks, goes-looks, looks-back, looks-said, Left, exits, walk-asks}
-use Rattle.warrant.proofs.Node as node
+use Rattle.nodes.proofs.Node as node
 use Rattle.warrant.proofs.columns.query as core
 use Rattle.warrant.proofs.columns.query.Symbol as core-symbol
 use Rattle.warrant.proofs.columns.query.Met as core-met
-use Rattle.warrant.proofs.nodes.count.Symbol as count-symbol
-use Rattle.warrant.proofs.nodes.count.Met as count-met
-use Rattle.warrant.proofs.nodes.write as write
-use Rattle.warrant.proofs.nodes.write.Symbol as write-symbol
-use Rattle.warrant.proofs.nodes.write.Met as write-met
+use Rattle.nodes.proofs.count.Symbol as count-symbol
+use Rattle.nodes.proofs.count.Met as count-met
+use Rattle.nodes.proofs.write as write
+use Rattle.nodes.proofs.write.Symbol as write-symbol
+use Rattle.nodes.proofs.write.Met as write-met
 use Rattle.warrant.proofs.query.Key.{name as #query}
 use Rattle.warrant.proofs.query as query
 use Rattle.warrant.proofs.query.Statement as stated
@@ -437,6 +437,6 @@ query-spec 𝓤 H 𝓜 𝓖 𝓡 =
     (cited 𝓤 H (Core 𝓤 H (𝓖 .A) mem run) 𝓜 𝓡 code.env core-symbol.name core-symbol.routine
     code.calls-warrant·columns·query (core-met.met 𝓤 H 𝓜 𝓖 𝓡))
     (cited 𝓤 H (Count 𝓤 H (𝓖 .A) mem run) 𝓜 𝓡 code.env count-symbol.name count-symbol.routine
-    code.calls-warrant·nodes·count (count-met.met 𝓤 H 𝓜 𝓖 𝓡))
+    code.calls-nodes·count (count-met.met 𝓤 H 𝓜 𝓖 𝓡))
     (cited 𝓤 H (Write 𝓤 H (𝓖 .A) mem run) 𝓜 𝓡 code.env write-symbol.name write-symbol.routine
-    code.calls-warrant·nodes·write (write-met.met 𝓤 H 𝓜 𝓖 𝓡)))
+    code.calls-nodes·write (write-met.met 𝓤 H 𝓜 𝓖 𝓡)))

@@ -1,0 +1,3 @@
+-- The laws of the calls' refusals and of the list call.
+pub mod Refusals
+mod Listings

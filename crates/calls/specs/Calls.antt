@@ -1,0 +1,145 @@
+-- What each public call returns and what it leaves in each lent table, from the image's bytes (document 01, "Answers" and
+-- "Causes for turning an order away").
+use mathlib.Core.Path.{_≡_}
+use mathlib.Core.List.{List, [], _++_, map}
+use Prim.Native.Nat.{ℕ, _+_, _*_, _/_}
+use lib.ListN.{length, drop, replicate}
+use lib.Dec.{ltb, leb}
+use Rattle.program.specs.Program.{Π}
+use Rattle.layout.specs.declared.Verdict.{Verdict}
+use Rattle.layout.specs.declared.Verdict.the-variants as verdicts
+use Rattle.layout.specs.Causes.{refuse, andThen, verdict}
+use Rattle.layout.specs.Reading.{programIn}
+use Rattle.derivation.specs.Closure.{contradictory}
+use Rattle.argument.specs.List.{argumentList}
+use Rattle.tree.specs.Entries.{Entry}
+use Rattle.answer.specs.declared.Answer.{Answer}
+use Rattle.answer.specs.declared.Answer.the-variants.{Yes, No, Undecided, Unknown, Unfinished, Refused}
+use Rattle.calls.specs.declared.Listed.{Listed}
+use Rattle.calls.specs.declared.Listed.the-variants as lists
+use Rattle.nodes.specs.declared.Node.{Node}
+pub use Rattle.nodes.specs.Rows.{nodeOf}
+pub use Rattle.answer.specs.Tables.{front, nodesAfter, zeroed, columnAfter}
+use Rattle.answer.specs.Answer.{tests, forestEntries, answer, codeOf, nodesOf}
+
+-- ---- check an image
+
+-- "Checked in the order listed: 1 to 3; 4 to 10 for each rule in turn; 11; 12 and 13 for each pair in turn; 14": "Π
+-- contradictory"
+unfoldable pub checkImage : List ℕ → Verdict
+checkImage s = andThen (verdict s) (refuse (contradictory (Π (programIn s .rules))) 14 0)
+
+-- ---- list arguments
+
+-- the argument list of the program that the image holds
+abbrev pub listIn : List ℕ → List ℕ
+listIn s = argumentList (programIn s .rules)
+
+-- 23: "More arguments than the argument table holds", where it holds `room`
+unfoldable pub listVerdict : List ℕ → ℕ → Verdict
+listVerdict s room = andThen (checkImage s) (refuse (ltb room (length (listIn s))) 23 0)
+
+-- "listing returns the argument count and writes the list"
+abbrev pub listedBy : Verdict → ℕ → Listed
+listedBy verdicts.Accepted n = lists.Count n
+listedBy (verdicts.Refused number place) n = lists.Refused number place
+
+unfoldable pub listed : List ℕ → ℕ → Listed
+listed s room = listedBy (listVerdict s room) (length (listIn s))
+
+-- where a cause applies, "all tables" are "Left as it was"
+abbrev pub unlessRefused : {A : Type 0} → Verdict → A → A → A
+unlessRefused verdicts.Accepted after before = after
+unlessRefused (verdicts.Refused number place) after before = before
+
+unfoldable pub listTable : List ℕ → List ℕ → List ℕ
+listTable s table = unlessRefused (listVerdict s (length table)) (front (listIn s) table) table
+
+-- ---- query
+
+-- "then 20 to 23": "Query literal 128 or more", "Budget over 4,096", "Node table shorter than the budget", "More arguments
+-- than the argument table holds"
+unfoldable pub queryVerdict : List ℕ → (literal budget argumentRoom nodeRoom : ℕ) → Verdict
+queryVerdict s h budget argumentRoom nodeRoom =
+    andThen (checkImage s)
+    (andThen (refuse (leb 128 h) 20 0)
+    (andThen (refuse (ltb 4096 budget) 21 0)
+    (andThen (refuse (ltb nodeRoom budget) 22 0)
+    (refuse (ltb argumentRoom (length (listIn s))) 23 0))))
+
+abbrev pub answeredBy : Verdict → Answer → Answer
+answeredBy verdicts.Accepted a = a
+answeredBy (verdicts.Refused number place) a = Refused number place
+
+-- "UNKNOWN comes after 23."
+unfoldable pub queried : List ℕ → (literal budget argumentRoom nodeRoom : ℕ) → Answer
+queried s h budget argumentRoom nodeRoom =
+    answeredBy (queryVerdict s h budget argumentRoom nodeRoom) (answer (programIn s) h budget)
+
+-- the argument table: "After every answer the argument table begins with the list."
+unfoldable pub queryArguments : List ℕ → (literal budget : ℕ) → List ℕ → (nodeRoom : ℕ) → List ℕ
+queryArguments s h budget table nodeRoom =
+    unlessRefused (queryVerdict s h budget (length table) nodeRoom) (front (listIn s) table) table
+
+-- what a field of the entries, or the whole entry, leaves in a table of its own, beside a node table of so many entries
+unfoldable pub queryColumn : {A : Type 0} → (Entry → A) → List ℕ → (literal budget argumentRoom nodeRoom : ℕ) → List A
+    → List A
+queryColumn field s h budget argumentRoom nodeRoom table =
+    columnAfter field (queried s h budget argumentRoom nodeRoom) (forestEntries (tests (programIn s)) h) table
+
+-- in the node table itself
+abbrev pub queryTable : {A : Type 0} → (Entry → A) → List ℕ → (literal budget argumentRoom : ℕ) → List A → List A
+queryTable field s h budget argumentRoom table = queryColumn field s h budget argumentRoom (length table) table
+
+abbrev pub queryNodes : List ℕ → (literal budget argumentRoom : ℕ) → List Node → List Node
+queryNodes = queryTable nodeOf
+
+-- ---- the call from the host program in C
+
+-- "code × 65,536 + nodes"
+abbrev pub codeAndNodes : Answer → ℕ
+codeAndNodes a = codeOf a * 65536 + nodesOf a
+
+-- "It returns code × 65,536 + nodes, or a bare refusal number."
+abbrev pub packed : Answer → ℕ
+packed (Yes n) = codeAndNodes (Yes n)
+packed (No n) = codeAndNodes (No n)
+packed (Undecided n) = codeAndNodes (Undecided n)
+packed Unknown = codeAndNodes Unknown
+packed (Unfinished n) = codeAndNodes (Unfinished n)
+packed (Refused number place) = number
+
+-- "which brings its own two tables of 4,096 entries, zeroed"
+unfoldable pub hostCall : List ℕ → (literal budget : ℕ) → ℕ
+hostCall s h budget = packed (queried s h budget 4096 4096)
+
+-- ---- the export of the query for tests and benchmarks
+
+-- code * 2^16 + nodes, or number * 2^32 + place
+abbrev pub answeredNumber : Answer → ℕ
+answeredNumber (Yes n) = codeAndNodes (Yes n)
+answeredNumber (No n) = codeAndNodes (No n)
+answeredNumber (Undecided n) = codeAndNodes (Undecided n)
+answeredNumber Unknown = codeAndNodes Unknown
+answeredNumber (Unfinished n) = codeAndNodes (Unfinished n)
+answeredNumber (Refused number place) = number * 0x1_0000_0000 + place
+
+-- ---- the calls that give a literal's answer
+
+-- "each may be any call that gives a literal's answer, as these two do, with any budget and, where tables are lent, tables
+-- of any length and contents"
+pub data Call : Type 0 where
+  query : (literal budget argumentRoom nodeRoom : ℕ) → Call
+  host : (literal budget : ℕ) → Call
+  probe : (literal budget argumentRoom nodeRoom : ℕ) → Call
+
+abbrev pub literalAsked : Call → ℕ
+literalAsked (query h budget argumentRoom nodeRoom) = h
+literalAsked (host h budget) = h
+literalAsked (probe h budget argumentRoom nodeRoom) = h
+
+-- the call says YES to its literal
+abbrev pub SaysYes : List ℕ → Call → Type 0
+SaysYes s (query h budget argumentRoom nodeRoom) = codeOf (queried s h budget argumentRoom nodeRoom) ≡ 1
+SaysYes s (host h budget) = hostCall s h budget / 65536 ≡ 1
+SaysYes s (probe h budget argumentRoom nodeRoom) = answeredNumber (queried s h budget argumentRoom nodeRoom) / 65536 ≡ 1

@@ -1,0 +1,2 @@
+-- The calls, in the order of document 01.
+pub mod Calls

@@ -1,0 +1,2 @@
+-- Entries of the node table.
+pub mod Rows

@@ -1,0 +1,3 @@
+-- The laws of the outcome.
+mod Zeros
+pub mod Concluded
