@@ -8,7 +8,7 @@ use Rattle.program.specs.Program.{Rule, Program, strict, defeasible, defeasible
 use Rattle.derivation.specs.Closure.{closure}
 use Rattle.argument.specs.List.{argumentList}
 use Rattle.defeat.specs.Tests.{attacked, proper, neither, blocking, kind}
-use Rattle.defeat.specs.Preference.{beatsSome}
+use Rattle.preference.specs.Preference.{beatsSome}
 use Rattle.defeat.specs.OfProgram.{testsOf}
 use Rattle.tree.specs.Reply.{unused, joins, replyKind}
 use Rattle.tree.specs.Forest.{repliesTo, remaining, replies, forestOf, undefeatedRoot}

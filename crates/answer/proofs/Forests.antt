@@ -8,11 +8,11 @@ use Rattle.program.specs.Program.{Program}
 use Rattle.derivation.specs.Derivation.{HeadsBelow}
 use Rattle.argument.specs.List.{argumentList}
 use Rattle.defeat.specs.Frame.{Frame}
-use Rattle.defeat.specs.Preference.{Preferred, preferredTest}
+use Rattle.preference.specs.Preference.{Preferred, preferredTest}
 use Rattle.defeat.specs.OfProgram.{frameOf, testsOf}
 use Rattle.defeat.proofs.Renders.{Renders}
 use Rattle.defeat.proofs.OfProgram.{frame-laws, frame-renders}
-use Rattle.defeat.proofs.Preferences.{preferred-renders}
+use Rattle.preference.proofs.Preferences.{preferred-renders}
 use Rattle.tree.specs.Forest.{Forest, size}
 use Rattle.tree.specs.Entries.{Entry}
 use Rattle.tree.specs.Published.{ForestFor, EntriesFor}

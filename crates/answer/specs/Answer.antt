@@ -8,7 +8,7 @@ use Rattle.lists.specs.Lists.{any}
 use Rattle.program.specs.Program.{Rule, Program}
 use Rattle.derivation.specs.Derivation.{complement}
 use Rattle.defeat.specs.Tests.{Tests}
-use Rattle.defeat.specs.Preference.{preferredTest}
+use Rattle.preference.specs.Preference.{preferredTest}
 use Rattle.defeat.specs.OfProgram.{testsOf}
 pub use Rattle.tree.specs.OfLiteral.{indexIn, nodeCount, forestEntries}
 unfoldable pub use Rattle.tree.specs.OfLiteral.{argumentsFor, forest, warranted}

@@ -3,7 +3,7 @@ use mathlib.Core.Path.{_≡_}
 use Prim.Native.Nat.{ℕ}
 use Rattle.program.specs.Program.{Program}
 use Rattle.argument.specs.Argument.{literalOf}
-use Rattle.defeat.specs.Preference.{Preferred}
+use Rattle.preference.specs.Preference.{Preferred}
 use Rattle.defeat.specs.OfProgram.{frameOf}
 use Rattle.tree.specs.Marks.{UndefeatedRoot}
 

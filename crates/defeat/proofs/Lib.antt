@@ -3,7 +3,6 @@ pub mod Laws
 pub mod Renders
 pub mod Defeat
 pub mod Kind
-pub mod Preferences
 pub mod OfProgram
 pub mod Rows
 pub mod Weighing

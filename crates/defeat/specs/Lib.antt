@@ -2,7 +2,6 @@
 pub mod Frame
 pub mod Defeat
 pub mod Tests
-pub mod Preference
 pub mod OfProgram
 pub mod Exclusions
 pub mod Steps

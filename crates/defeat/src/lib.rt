@@ -2,4 +2,3 @@
 
 pub mod defeaters;
 pub mod exclusions;
-pub mod preference;

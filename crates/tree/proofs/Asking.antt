@@ -12,7 +12,7 @@ use Rattle.argument.specs.Argument.{maskOf}
 use Rattle.argument.specs.List.{argumentList}
 use Rattle.argument.specs.Closures.{closureAt}
 use Rattle.defeat.specs.Tests.{kind}
-use Rattle.defeat.specs.Preference.{preferredTest}
+use Rattle.preference.specs.Preference.{preferredTest}
 use Rattle.defeat.specs.OfProgram.{testsOf}
 use Rattle.defeat.specs.Exclusions.{Numbers}
 use Rattle.tree.specs.Reply.{theirs, permit, replyKind, lastKind}

@@ -11,7 +11,7 @@ use Rattle.program.specs.Program.{Program, defeasibles}
 use Rattle.argument.specs.Argument.{maskOf}
 use Rattle.argument.specs.Closures.{Room}
 use Rattle.defeat.specs.Tests.{Tests}
-use Rattle.defeat.specs.Preference.{preferredTest}
+use Rattle.preference.specs.Preference.{preferredTest}
 use Rattle.defeat.specs.Exclusions.{Ready as Made}
 use Rattle.defeat.specs.OfProgram.{testsOf}
 use Rattle.tree.specs.Reply.{mine, theirs, replyKind, lastKind}

@@ -15,7 +15,7 @@ use Rattle.layout.specs.declared.Verdict.the-variants as verdicts
 use Rattle.layout.specs.Reading.{programIn}
 use Rattle.derivation.specs.Derivation.{complement}
 use Rattle.defeat.specs.Tests.{Tests}
-use Rattle.defeat.specs.Preference.{preferredTest}
+use Rattle.preference.specs.Preference.{preferredTest}
 use Rattle.tree.specs.Entries.{Entry}
 use Rattle.answer.specs.declared.Answer.{Answer}
 use Rattle.answer.specs.declared.Answer.the-variants.{Yes, No, Undecided, Unknown, Unfinished, Refused}

@@ -17,9 +17,9 @@ use Rattle.derivation.specs.Derivation.{Contradictory, HeadsBelow}
 use Rattle.derivation.specs.Closure.{contradictory}
 use Rattle.derivation.proofs.Contradictions.{contradictory-sound, contradictory-complete}
 use Rattle.derivation.proofs.Choices.{Π-with-rules}
-use Rattle.defeat.specs.Preference.{Preferred, preferredTest}
+use Rattle.preference.specs.Preference.{Preferred, preferredTest}
 use Rattle.defeat.specs.OfProgram.{Exclude}
-use Rattle.defeat.proofs.Preferences.{preferred-renders}
+use Rattle.preference.proofs.Preferences.{preferred-renders}
 use Rattle.answer.specs.Answer.{tests, answer, codeOf}
 use Rattle.calls.specs.Calls.{checkImage, queryVerdict, answeredBy, queried, Call, query, host, probe, literalAsked}
 use Rattle.calls.specs.Calls.{SaysYes}

@@ -12,7 +12,7 @@ use Rattle.layout.specs.declared.Verdict.{Verdict}
 use Rattle.layout.specs.declared.Verdict.the-variants as verdicts
 use Rattle.layout.specs.Reading.{programIn}
 use Rattle.derivation.specs.Derivation.{complement}
-use Rattle.defeat.specs.Preference.{preferredTest}
+use Rattle.preference.specs.Preference.{preferredTest}
 use Rattle.tree.specs.Entries.{Entry}
 use Rattle.tree.specs.Tables.{Columns, columns}
 use Rattle.answer.specs.declared.Answer.{Answer}

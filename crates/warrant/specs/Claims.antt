@@ -10,7 +10,7 @@ use Rattle.layout.specs.declared.Verdict.{Verdict}
 use Rattle.layout.specs.declared.Verdict.the-variants.{Accepted}
 use Rattle.layout.specs.Reading.{programIn}
 use Rattle.argument.specs.List.{argumentList}
-use Rattle.defeat.specs.Preference.{Preferred}
+use Rattle.preference.specs.Preference.{Preferred}
 use Rattle.defeat.specs.OfProgram.{Exclude, frameOf}
 use Rattle.tree.specs.Forest.{Forest}
 use Rattle.tree.specs.Entries.{Entry}

@@ -3,7 +3,7 @@
 use mathlib.Core.Path.{sym, ap, ap₂, _∙_}
 use Rattle.literals.specs.Sets.{meets}
 use Rattle.argument.specs.Closures.{closureAt}
-use Rattle.defeat.specs.Preference.{preferredTest}
+use Rattle.preference.specs.Preference.{preferredTest}
 use Rattle.defeat.specs.Exclusions.{excludedBy}
 use Rattle.defeat.proofs.Attacks.{kind-apart}
 use borrow.Author.Needs.{needs}

@@ -2,7 +2,7 @@
 -- defined one. Assumes nothing.
 use mathlib.Core.Path.{sym, ap, _∙_}
 use Rattle.program.specs.Limits.{Mask}
-use Rattle.defeat.specs.Preference.{preferredTest}
+use Rattle.preference.specs.Preference.{preferredTest}
 use Rattle.defeat.specs.Exclusions.{excludedBy}
 use Rattle.defeat.proofs.Attacks.{listed-mask, kind-strict, kind-weighed}
 use borrow.Author.Needs.{needs}

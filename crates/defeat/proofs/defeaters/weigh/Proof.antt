@@ -15,7 +15,7 @@ use Rattle.program.specs.Limits.{Limits, Mask}
 use Rattle.program.specs.Table.{Holds}
 use Rattle.argument.specs.Argument.{maskOf}
 use Rattle.argument.specs.List.{argumentList}
-use Rattle.defeat.specs.Preference.{preferredTest}
+use Rattle.preference.specs.Preference.{preferredTest}
 use Rattle.defeat.specs.Steps.{attackedBy, kindAmong}
 use Rattle.defeat.proofs.Weighing.{kindLeft, left-start, left-none, left-skip, left-proper, left-under, left-neither}
 use Rattle.defeat.proofs.Attacks.{listed-mask, entry-listed, entry-first, entry-past}

@@ -17,7 +17,7 @@ use Rattle.program.specs.Limits.{DefeasibleAt, Limits, Mask}
 use Rattle.program.specs.Table.{Holds, beatenAt}
 use Rattle.program.proofs.Numbers.{defeasible-test, defeasible-found, bit-of-same, bit-of-found}
 use Rattle.program.proofs.Pairs.{beaten-found, beaten-exact}
-use Rattle.defeat.specs.Preference.{RuleOf, SomeBeats, Preferred, beatsSome, preferredTest}
+use Rattle.preference.specs.Preference.{RuleOf, SomeBeats, Preferred, beatsSome, preferredTest}
 
 -- ---- the tests, of every program
 

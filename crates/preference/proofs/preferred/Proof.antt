@@ -2,9 +2,9 @@
 use mathlib.Core.Path.{_≡_, sym, ap, _∙_}
 use mathlib.Core.Bool.{Bool, true, false, not, _&&_}
 use borrow.Author.Needs.{needs}
-use Rattle.defeat.specs.Preference.{beatsSome}
-use Rattle.defeat.proofs.preference.preferred.Statement.{statement}
-use Rattle.defeat.proofs.preference.preferred.Tie as tie
+use Rattle.preference.specs.Preference.{beatsSome}
+use Rattle.preference.proofs.preferred.Statement.{statement}
+use Rattle.preference.proofs.preferred.Tie as tie
 
 -- the first test passes, and fails
 passed : {r s a b : Bool} → r ≡ a → s ≡ b → r ≡ true → not s ≡ (a && not b)

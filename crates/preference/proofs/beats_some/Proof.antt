@@ -12,10 +12,10 @@ use Rattle.literals.proofs.Members.{has-bound, minus-less}
 use Rattle.program.specs.Program.{Program}
 use Rattle.program.specs.Limits.{Limits, Mask}
 use Rattle.program.specs.Table.{Holds, beatenAt}
-use Rattle.defeat.specs.Preference.{beatsSome}
-use Rattle.defeat.proofs.Preferences.{beats-some-none, beats-some-met, beats-some-rest}
-use Rattle.defeat.proofs.preference.beats_some.Statement.{statement}
-use Rattle.defeat.proofs.preference.beats_some.Tie as tie
+use Rattle.preference.specs.Preference.{beatsSome}
+use Rattle.preference.proofs.Preferences.{beats-some-none, beats-some-met, beats-some-rest}
+use Rattle.preference.proofs.beats_some.Statement.{statement}
+use Rattle.preference.proofs.beats_some.Tie as tie
 
 -- what the answer is to be, of every program that the table holds
 abbrev Answers : List ℕ → ℕ → ℕ → Bool → Type 0

@@ -1,0 +1,2 @@
+-- The two forms of preference are one, and what the code's loop does.
+pub mod Preferences

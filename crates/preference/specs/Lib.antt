@@ -1,0 +1,2 @@
+-- Preference between arguments, as published and as computed.
+pub mod Preference
