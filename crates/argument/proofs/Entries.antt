@@ -176,23 +176,23 @@ module _ (rules : List Rule) (j m u h : ℕ) (begun : Begun rules j m 0 u h) whe
       (e ∙ ap (λ (l : List Rule). closure l (union u h)) (Π-mask-empty rules)
       ∙ rest (union u h) (union-within u h (maskClosure rules m) (begun .derived) (begun .given)) (within-union-right u h))
 
--- a table with one more entry
+-- a table of two words for each number, with those of m stored
 module _ (t : List ℕ) (m lo hi : ℕ) (room : 2 * m + 1 < length t) where
-  abbrev stored : List ℕ
+  abbrev pub stored : List ℕ
   stored = set (set t (2 * m) lo) (2 * m + 1) hi
 
-  stored-same : closureAt stored m ≡ joined hi lo
+  pub stored-same : closureAt stored m ≡ joined hi lo
   stored-same =
       ap₂ joined (getD-set-same (set t (2 * m) lo) (2 * m + 1) hi 0 (simp length-set room))
       (getD-set-other (set t (2 * m) lo) (2 * m + 1) (2 * m) hi 0 (λ e. omega arith) ∙ getD-set-same t (2 * m) lo 0 (omega arith))
 
-  stored-other : (n : ℕ) → n < m → closureAt stored n ≡ closureAt t n
-  stored-other n l = ap₂ joined (kept (2 * n + 1) (omega arith)) (kept (2 * n) (omega arith))
+  pub stored-other : (n : ℕ) → (n ≡ m → ⊥) → closureAt stored n ≡ closureAt t n
+  stored-other n o =
+      ap₂ joined (kept (2 * n + 1) (λ q. o (omega arith)) (λ q. o (omega arith)))
+      (kept (2 * n) (λ q. o (omega arith)) (λ q. o (omega arith)))
     where
-      kept : (k : ℕ) → k < 2 * m → getD stored k 0 ≡ getD t k 0
-      kept k h =
-          getD-set-other (set t (2 * m) lo) (2 * m + 1) k hi 0 (λ e. omega arith)
-          ∙ getD-set-other t (2 * m) k lo 0 (λ e. omega arith)
+      kept : (k : ℕ) → (k ≡ 2 * m → ⊥) → (k ≡ 2 * m + 1 → ⊥) → getD stored k 0 ≡ getD t k 0
+      kept k f g = getD-set-other (set t (2 * m) lo) (2 * m + 1) k hi 0 g ∙ getD-set-other t (2 * m) k lo 0 f
 
   pub filled-more : (rules : List Rule) → Filled rules m t → Stands rules m (joined hi lo)
       → Filled rules (m + 1) (set (set t (2 * m) lo) (2 * m + 1) hi)
@@ -200,4 +200,4 @@ module _ (t : List ℕ) (m lo hi : ℕ) (room : 2 * m + 1 < length t) where
     where
       go : (n ≡ m) ⊎ (n < m) → Stands rules n (closureAt stored n)
       go (inl e) = subst (λ (k : ℕ). Stands rules k (closureAt stored k)) (sym e) (subst (Stands rules m) (sym stored-same) stands)
-      go (inr q) = subst (Stands rules n) (sym (stored-other n q)) (filled n q)
+      go (inr q) = subst (Stands rules n) (sym (stored-other n (λ e. omega arith))) (filled n q)

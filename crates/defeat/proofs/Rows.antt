@@ -8,7 +8,6 @@ use Prim.Native.Nat.{ℕ, zero, suc, _+_, _*_, _^_, _<_, _≤_}
 use native.Mathlib.Nat.{le-refl}
 use native.Mathlib.Omega.{arith}
 use lib.ListN.{length, getD, set, take, length-set}
-use lib.Seq.{getD-set-same, getD-set-other}
 use borrow.Author.Count.{below-more}
 use Rattle.literals.specs.Sets.{has, insert, union, within, clash}
 use Rattle.literals.specs.Words.{joined}
@@ -27,6 +26,7 @@ use Rattle.derivation.proofs.Parts.{parted-closed, parted-union}
 use Rattle.derivation.proofs.Choices.{Π-mask-empty}
 use Rattle.derivation.proofs.Contradictions.{excludes-sym}
 use Rattle.argument.specs.Argument.{literalOf}
+use Rattle.argument.proofs.Entries.{stored, stored-same, stored-other}
 use Rattle.defeat.specs.Exclusions.{excludedBy, Excluded, Conclusions}
 use Rattle.defeat.specs.Steps.{RowOf, Begun}
 
@@ -165,33 +165,20 @@ rows-none P u e a l = absurd (none a l)
 rows-skip : (P : ℕ → ℕ → Type 0) (u n : ℕ) (e : List ℕ) → has u n ≡ false → RowsTo P u n e → RowsTo P u (n + 1) e
 rows-skip P u n e h rows = below-more _ n rows (λ i. absurd (false≢true (sym h ∙ i)))
 
+-- with the words of a stored
 module _ (e : List ℕ) (a lo hi : ℕ) (room : 2 * a + 1 < length e) where
-  abbrev stored : List ℕ
-  stored = set (set e (2 * a) lo) (2 * a + 1) hi
+  abbrev after : List ℕ
+  after = stored e a lo hi room
 
-  stored-same : excludedBy stored a ≡ joined hi lo
-  stored-same =
-      ap₂ joined (getD-set-same (set e (2 * a) lo) (2 * a + 1) hi 0 (simp length-set room))
-      (getD-set-other (set e (2 * a) lo) (2 * a + 1) (2 * a) hi 0 (λ q. omega arith)
-      ∙ getD-set-same e (2 * a) lo 0 (omega arith))
-
-  stored-other : (b : ℕ) → (b ≡ a → ⊥) → excludedBy stored b ≡ excludedBy e b
-  stored-other b o = ap₂ joined (kept (2 * b + 1) (λ q. o (omega arith)) (λ q. o (omega arith))) (kept (2 * b) (λ q. o (omega arith)) (λ q. o (omega arith)))
-    where
-      kept : (k : ℕ) → (k ≡ 2 * a → ⊥) → (k ≡ 2 * a + 1 → ⊥) → getD stored k 0 ≡ getD e k 0
-      kept k f g =
-          getD-set-other (set e (2 * a) lo) (2 * a + 1) k hi 0 g
-          ∙ getD-set-other e (2 * a) k lo 0 f
-
-  rows-more : (P : ℕ → ℕ → Type 0) (u : ℕ) → RowsTo P u a e → P a (joined hi lo) → RowsTo P u (a + 1) stored
+  rows-more : (P : ℕ → ℕ → Type 0) (u : ℕ) → RowsTo P u a e → P a (joined hi lo) → RowsTo P u (a + 1) after
   rows-more P u rows row =
-      below-more _ a (λ b l h. subst (P b) (sym (stored-other b (λ q. omega arith))) (rows b l h))
-      (λ h. subst (P a) (sym stored-same) row)
+      below-more _ a (λ b l h. subst (P b) (sym (stored-other e a lo hi room b (λ q. omega arith))) (rows b l h))
+      (λ h. subst (P a) (sym (stored-same e a lo hi room)) row)
 
-  begun-more : (rules : List Rule) (u : ℕ) → Begun rules u a e → RowOf rules u a (joined hi lo) → Begun rules u (a + 1) stored
+  begun-more : (rules : List Rule) (u : ℕ) → Begun rules u a e → RowOf rules u a (joined hi lo) → Begun rules u (a + 1) after
   begun-more rules u begun row = record {
     rows = rows-more (RowOf rules u) u (begun .rows) row;
-    derived = λ b l h. stored-other b (λ q. omega arith) ∙ begun .derived b (omega arith) h;
+    derived = λ b l h. stored-other e a lo hi room b (λ q. omega arith) ∙ begun .derived b (omega arith) h;
   }
 
 begun-skip : (rules : List Rule) (u n : ℕ) (e : List ℕ) → has u n ≡ false → Begun rules u n e → Begun rules u (n + 1) e
