@@ -6,7 +6,8 @@
  * It prints the answer with its number of nodes and what it means. The exit status is 0 for an answer, 1 for a refusal and
  * 2 where there was nothing to ask, so that no script takes a refusal for an answer.
  *
- *     cc -std=c99 -Iinclude examples/host.c target/staticlib/libhost.a -o host
+ *     rt staticlib host
+ *     cc -std=c99 -Iinclude examples/host.c target/staticlib/libhost.a -o target/host
  */
 #include <ctype.h>
 #include <errno.h>

@@ -4,8 +4,7 @@
  * Link with libhost.a, which `rt staticlib host` writes to target/staticlib/, for x86-64 and the System V calling
  * convention. It needs nothing else but the memory functions of a C library: memset, memcpy, memmove, memcmp.
  *
- * The image's format, the answers and the refusals are those of the warrant engine's scope; what is proved of the call is
- * in docs/GUARANTEES.md.
+ * docs/IMAGE.md has the image's format, docs/GUARANTEES.md what is proved of the call.
  */
 #ifndef FOQTIREL_H
 #define FOQTIREL_H
