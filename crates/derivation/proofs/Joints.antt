@@ -26,7 +26,7 @@ use Rattle.derivation.specs.Parts.{RulesOf, Alone, Solo, StrictOf, Parte
 use Rattle.derivation.proofs.Choices.{Π-mask-empty}
 use Rattle.derivation.proofs.Parts.{solo-few, settle-rest, settle-done}
 
--- of the rules below i, those that join are in j, and no others
+-- the rules below i that join are in j, which has rules below i only
 pub record Sifted (t : List ℕ) (d i j : ℕ) : Type 0 where
   pub below : (k : ℕ) → has j k ≡ true → k < i
   pub apart : (k : ℕ) → k < i → has j k ≡ false → joinsAt t k d ≡ false
