@@ -5,9 +5,4 @@ pub mod Lists
 pub mod Tables
 pub mod Entries
 mod Fills
-pub mod Unions
-pub mod FreshSets
 pub mod SubArguments
-pub mod Picks
-pub mod Readings
-mod Listings

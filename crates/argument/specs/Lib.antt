@@ -3,4 +3,3 @@ pub mod Argument
 pub mod List
 pub mod Fresh
 pub mod Closures
-pub mod Listing

@@ -8,9 +8,9 @@ use lib.ListN.{length, drop}
 use lib.Dec.{leb, ltb}
 use borrow.Author.Tests.{leb-true, leb-false, lt-ltb, le-ltb}
 use Rattle.literals.specs.Sets.{choose}
-use Rattle.argument.specs.declared.Listed.{Listed}
-use Rattle.argument.specs.declared.Listed.the-variants as parts
-use Rattle.argument.specs.Listing.{listed as listedIn, withList}
+use Rattle.listing.specs.declared.Listed.{Listed}
+use Rattle.listing.specs.declared.Listed.the-variants as parts
+use Rattle.listing.specs.Listing.{listed as listedIn, withList}
 use Rattle.layout.specs.declared.Verdict.{Verdict}
 use Rattle.layout.specs.declared.Verdict.the-variants as verdicts
 use Rattle.layout.specs.Causes.{refuse, andThen}

@@ -48,9 +48,9 @@ pub fn list(image: &[u8], arguments: &mut [u32]) -> Listed
     if let Verdict::Refused { number, place } = load(image, &mut table) {
         return Listed::Refused { number, place };
     }
-    match listing::list(&table, arguments) {
-        argument::Listed::Count(count) => Listed::Count(count),
-        argument::Listed::Over => Listed::Refused {
+    match sizes::list(&table, arguments) {
+        listing::Listed::Count(count) => Listed::Count(count),
+        listing::Listed::Over => Listed::Refused {
             number: 23,
             place: 0,
         },

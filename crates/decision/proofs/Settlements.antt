@@ -11,10 +11,10 @@ use lib.Pow.{pow-mono}
 use Rattle.literals.specs.Sets.{choose}
 use Rattle.program.specs.Program.{Program, defeasibles}
 use Rattle.program.specs.Table.{bitCount}
-use Rattle.argument.specs.declared.Listed.{Listed}
-use Rattle.argument.specs.declared.Listed.the-variants.{Count, Over}
+use Rattle.listing.specs.declared.Listed.{Listed}
+use Rattle.listing.specs.declared.Listed.the-variants.{Count, Over}
 use Rattle.argument.specs.List.{argumentList}
-use Rattle.argument.specs.Listing.{listed, withList}
+use Rattle.listing.specs.Listing.{listed, withList}
 use Rattle.argument.specs.Closures.{Filled, Room}
 use Rattle.tree.specs.Tables.{Columns}
 use Rattle.answer.specs.declared.Answer.{Answer}

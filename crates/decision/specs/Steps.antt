@@ -11,7 +11,7 @@ use Rattle.program.specs.Program.{Rule, Program, defeasibles}
 use Rattle.program.specs.Limits.{Limits}
 use Rattle.program.specs.Table.{Holds}
 use Rattle.argument.specs.List.{argumentList}
-use Rattle.argument.specs.Listing.{withList}
+use Rattle.listing.specs.Listing.{withList}
 use Rattle.argument.specs.Closures.{Filled, Room}
 use Rattle.tree.specs.Tables.{Columns, Hold}
 use Rattle.answer.specs.declared.Answer.{Answer}

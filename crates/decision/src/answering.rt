@@ -7,8 +7,8 @@ ghost use Rattle.answer.specs.Answer.{tests};
 ghost use Rattle.decision.specs.Steps.{Held, Asked, Listing, Decidable, Decided, Settles};
 use crate::occurrence::occurs;
 use answer::Answer;
-use argument::Listed;
 use forest::roots::Grown;
+use listing::Listed;
 use program::RuleTable;
 
 // Writes the argument list and answers the literal; the closure table is lent.
@@ -29,7 +29,7 @@ pub fn settle(
         (columns (now (indexes .entry)) (now (parents .entry)) (now (kinds .entry)) (now (marks .entry)))
         (columns (now (indexes .exit)) (now (parents .exit)) (now (kinds .exit)) (now (marks .exit))) ⌝ }
 {
-    match argument::list(table, closures, arguments) {
+    match listing::list(table, closures, arguments) {
         Listed::Count(count) => decide(
             table,
             closures,

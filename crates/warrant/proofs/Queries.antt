@@ -20,7 +20,7 @@ use Rattle.answer.specs.declared.Answer.the-variants.{Refused}
 use Rattle.answer.specs.Answer.{tests, forestEntries, answer}
 use Rattle.answer.specs.Tables.{front, columnsAfter}
 use Rattle.decision.specs.Steps.{Held, settled, Settled}
-use Rattle.argument.specs.Listing.{withList}
+use Rattle.listing.specs.Listing.{withList}
 use Rattle.calls.specs.Calls.{checkImage, listIn, queryVerdict, answeredBy, queried, unlessRefused, queryArguments}
 use Rattle.calls.specs.Calls.{queryColumn}
 use Rattle.warrant.specs.Columns.{queryColumns}

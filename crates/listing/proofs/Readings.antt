@@ -8,14 +8,14 @@ use Rattle.literals.specs.Sets.{has, choose, minus, clash}
 use Rattle.literals.proofs.Tests.{not-true-false}
 use Rattle.literals.proofs.Members.{minus-less}
 use Rattle.program.specs.Program.{Rule, defeasibles}
 use Rattle.argument.specs.Fresh.{maskClosure, derivedWithout, freshBy}
 use Rattle.argument.specs.List.{isArgument, listBy, argumentList}
 use Rattle.argument.specs.Closures.{closureAt, Stands, Filled}
-use Rattle.argument.specs.Listing.{freshIn, listIn}
+use Rattle.listing.specs.Listing.{freshIn, listIn}
 use Rattle.argument.proofs.MaskClosures.{minus-subset, mask-contradictory-mono}
-use Rattle.argument.proofs.Unions.{unionOver-ext}
-use Rattle.argument.proofs.FreshSets.{fresh-isArgument}
-use Rattle.argument.proofs.Picks.{listed-ext}
+use Rattle.listing.proofs.Unions.{unionOver-ext}
+use Rattle.listing.proofs.FreshSets.{fresh-isArgument}
+use Rattle.listing.proofs.Picks.{listed-ext}
 
 pub fresh-clash : (derived : ℕ → ℕ) (n m : ℕ) → clash (derived m) ≡ true → freshBy derived n m ≡ 0
 unfolding freshBy

@@ -10,20 +10,20 @@ use Rattle.literals.specs.Sets.{choose}
 use Rattle.program.specs.Program.{Program}
 use Rattle.program.specs.Limits.{Limits}
 use Rattle.program.specs.Table.{Holds}
-use Rattle.argument.specs.declared.Listed.{Listed}
-use Rattle.argument.specs.declared.Listed.the-variants.{Count, Over}
+use Rattle.listing.specs.declared.Listed.{Listed}
+use Rattle.listing.specs.declared.Listed.the-variants.{Count, Over}
 use Rattle.argument.specs.List.{argumentList}
-use Rattle.argument.specs.Listing.{listed, withList, Lists}
+use Rattle.listing.specs.Listing.{listed, withList, Lists}
 use Rattle.argument.proofs.Tables.{room-upto}
 use Prim.Native.Nat.{ℕ, _<_}
 use borrow.Fn.Kinds.{In}
 use borrow.Fn.PlainCycle.{Measures, is, falls, and}
-use Rattle.listing.proofs.large.Reads as large
-use Rattle.listing.proofs.large.Kinds as large-kinds
-use Rattle.listing.proofs.+large.Lts-large as large-lts
-use Rattle.argument.proofs.list.Reads as list-reads
-use Rattle.listing.proofs.+large.{statement}
-use Rattle.listing.proofs.+large.Tie.{close}
+use Rattle.sizes.proofs.large.Reads as large
+use Rattle.sizes.proofs.large.Kinds as large-kinds
+use Rattle.sizes.proofs.+large.Lts-large as large-lts
+use Rattle.listing.proofs.list.Reads as list-reads
+use Rattle.sizes.proofs.+large.{statement}
+use Rattle.sizes.proofs.+large.Tie.{close}
 
 -- a list that does not fit leaves the table as it was, so that the next call finds it so
 again : (table t : List ℕ) {u v : List ℕ} {r q : Listed} → Lists table t u r → r ≡ Over → Lists table u v q → Lists table t v q

@@ -5,12 +5,12 @@ use Prim.Native.Nat.{ℕ, _+_, _^_, _<_}
 use lib.ListN.{length}
 use Rattle.literals.specs.Sets.{minus}
 use Rattle.literals.proofs.Members.{minus-less}
-use Rattle.argument.specs.Listing.{membersFrom}
-use Rattle.argument.proofs.Picks.{members-none, members-lowest}
-use Rattle.argument.proofs.Listings.{Writing, writing-all, writing-one, writing-none}
+use Rattle.listing.specs.Listing.{membersFrom}
+use Rattle.listing.proofs.Picks.{members-none, members-lowest}
+use Rattle.listing.proofs.Listings.{Writing, writing-all, writing-one, writing-none}
 use native.Mathlib.Omega.{arith}
-use Rattle.argument.proofs.arguments.write_word.Statement.{statement}
-use Rattle.argument.proofs.arguments.write_word.Tie as tie
+use Rattle.listing.proofs.arguments.write_word.Statement.{statement}
+use Rattle.listing.proofs.arguments.write_word.Tie as tie
 
 abbrev Inv-loop : tie.InvT-loop
 Inv-loop arguments₀ at base word next₀ left₀ arguments next left =

@@ -4,8 +4,8 @@ ghost use Prim.Native.Nat.{_+_, _*_, _^_, _<_, _≤_};
 ghost use lib.ListN.{length};
 ghost use lib.Seq.{sets};
 ghost use Rattle.literals.specs.Words.{setOf};
 ghost use Rattle.argument.specs.Closures.{Room};
-ghost use Rattle.argument.specs.Listing.{freshIn, listIn, membersFrom, Written};
+ghost use Rattle.listing.specs.Listing.{freshIn, listIn, membersFrom, Written};
 use literals::LiteralSet;
 use literals::masks;
 
@@ -16,7 +16,7 @@ pub fn fresh(closures: &[u64], bits: u64, mask: u64) -> LiteralSet
     requires { ⌜ mask < 2 ^ bits ⌝ }
     ensures { λ r. ⌜ setOf r ≡ freshIn (now (closures .entry)) bits mask ⌝ }
 {
-    let whole = crate::closures::entry(closures, mask);
+    let whole = argument::closures::entry(closures, mask);
     if whole.contradictory() {
         return LiteralSet::empty();
     }
@@ -24,7 +24,7 @@ pub fn fresh(closures: &[u64], bits: u64, mask: u64) -> LiteralSet
     let mut left = mask;
     while left != 0 {
         let bit = masks::lowest(left);
-        less = less.union(crate::closures::entry(closures, masks::clear(mask, bit)));
+        less = less.union(argument::closures::entry(closures, masks::clear(mask, bit)));
         if whole.within(less) {
             return LiteralSet::empty();
         }
@@ -38,7 +38,7 @@ pub fn count(closures: &[u64], bits: u64) -> u32
     requires { ⌜ Room bits (now closures) ⌝ }
     ensures { λ r. ⌜ r ≡ length (listIn (now (closures .entry)) bits) ⌝ }
 {
-    let end = crate::closures::mask_count(bits);
+    let end = argument::closures::mask_count(bits);
     let mut found: u32 = 0;
     let mut mask: u64 = 0;
     while mask < end {
@@ -54,7 +54,7 @@ pub fn write(closures: &[u64], bits: u64, arguments: &mut [u32])
     requires { ⌜ length (listIn (now closures) bits) ≤ length (now arguments) ⌝ }
     ensures { λ _. ⌜ now (arguments .exit) ≡ sets (now (arguments .entry)) 0 (listIn (now (closures .entry)) bits) ⌝ }
 {
-    let end = crate::closures::mask_count(bits);
+    let end = argument::closures::mask_count(bits);
     let mut at: usize = 0;
     let mut mask: u64 = 0;
     while mask < end {

@@ -19,8 +19,8 @@ use Rattle.literals.specs.Words.{joined}
 use Rattle.literals.proofs.Bits.{bit-first, bit-below}
 use Rattle.literals.proofs.Members.{has-half, has-empty, has-minus-power}
 use Rattle.literals.proofs.Words.{has-joined-low, has-joined-high}
 use Rattle.argument.specs.List.{picked, listBy}
-use Rattle.argument.specs.Listing.{membersFrom}
+use Rattle.listing.specs.Listing.{membersFrom}
 
 pub picked-ext : (f g : ℕ → Bool) (base k n : ℕ) → ((j : ℕ) → k ≤ j → j < k + n → f j ≡ g j)
     → picked f base k n ≡ picked g base k n

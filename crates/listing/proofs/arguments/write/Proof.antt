@@ -1,10 +1,10 @@
 -- `arguments::write` meets its contract: the arguments of the masks that are left are left to be written. Assumes nothing.
 use Prim.Native.Nat.{_≤_, _-_}
-use Rattle.argument.specs.Listing.{listIn}
-use Rattle.argument.proofs.Listings.{listFrom, list-all, Writing, writing-all, list-room, list-more, list-written}
+use Rattle.listing.specs.Listing.{listIn}
+use Rattle.listing.proofs.Listings.{listFrom, list-all, Writing, writing-all, list-room, list-more, list-written}
 use native.Mathlib.Omega.{arith}
-use Rattle.argument.proofs.arguments.write.Statement.{statement}
-use Rattle.argument.proofs.arguments.write.Tie as tie
+use Rattle.listing.proofs.arguments.write.Statement.{statement}
+use Rattle.listing.proofs.arguments.write.Tie as tie
 
 abbrev Inv-loop : tie.InvT-loop
 Inv-loop closures bits arguments₀ end at₀ mask₀ arguments at mask =

@@ -2,8 +2,8 @@
 use native.Mathlib.Omega.{arith}
 use borrow.Author.Needs.{needs}
 use Rattle.argument.proofs.Tables.{room-upto}
-use Rattle.listing.proofs.middle.Statement.{statement}
-use Rattle.listing.proofs.middle.Tie as tie
+use Rattle.sizes.proofs.middle.Statement.{statement}
+use Rattle.sizes.proofs.middle.Tie as tie
 
 slice-aggregate-list : tie.Need-slice-aggregate-list
 slice-aggregate-list c = search needs

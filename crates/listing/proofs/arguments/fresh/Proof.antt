@@ -5,13 +5,13 @@ use Prim.Native.Nat.{_<_, _^_}
 use Rattle.literals.specs.Words.{setOf}
 use Rattle.literals.specs.Sets.{clash}
 use Rattle.literals.proofs.Members.{minus-less}
 use Rattle.argument.proofs.Entries.{room-entry}
-use Rattle.argument.proofs.Readings.{fresh-clash}
-use Rattle.argument.proofs.Listings.{Rest, rest-all, rest-less, rest-next, rest-found, rest-none}
+use Rattle.listing.proofs.Readings.{fresh-clash}
+use Rattle.listing.proofs.Listings.{Rest, rest-all, rest-less, rest-next, rest-found, rest-none}
 use borrow.Author.Needs.{needs}
 use native.Mathlib.Omega.{arith}
-use Rattle.argument.proofs.arguments.fresh.Statement.{statement}
-use Rattle.argument.proofs.arguments.fresh.Tie as tie
+use Rattle.listing.proofs.arguments.fresh.Statement.{statement}
+use Rattle.listing.proofs.arguments.fresh.Tie as tie
 
 abbrev Inv-loop : tie.InvT-loop
 Inv-loop closures bits mask whole less₀ left₀ less left =

@@ -16,14 +16,14 @@ use borrow.Author.Tests.{eqb-true, le-leb, lt-leb}
 use Rattle.literals.specs.Sets.{has, choose, minus, union, within, clash}
 use Rattle.literals.proofs.Members.{has-bound, minus-less}
 use Rattle.literals.proofs.Within.{within-each, within-refl, within-trans, within-union-left, minus-within}
-use Rattle.argument.specs.declared.Listed.the-variants.{Count, Over}
+use Rattle.listing.specs.declared.Listed.the-variants.{Count, Over}
 use Rattle.argument.specs.Fresh.{unionOver, derivedWithout}
 use Rattle.argument.specs.List.{listBy}
 use Rattle.argument.specs.Closures.{closureAt}
-use Rattle.argument.specs.Listing.{freshIn, listIn, membersFrom, Written, listed, withList}
-use Rattle.argument.proofs.Unions.{union-assoc, unionOver-empty, unionOver-first}
-use Rattle.argument.proofs.Picks.{members-length, listed-next, listed-end, sets-append}
-use Rattle.argument.proofs.Readings.{fresh-coherent}
+use Rattle.listing.specs.Listing.{freshIn, listIn, membersFrom, Written, listed, withList}
+use Rattle.listing.proofs.Unions.{union-assoc, unionOver-empty, unionOver-first}
+use Rattle.listing.proofs.Picks.{members-length, listed-next, listed-end, sets-append}
+use Rattle.listing.proofs.Readings.{fresh-coherent}
 
 minus-all : (a b : ℕ) → within a b ≡ true → minus a b ≡ 0
 minus-all a b w = omega (arith, eqb-true (bitAnd a b) a w)

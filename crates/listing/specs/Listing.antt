@@ -9,11 +9,11 @@ use Rattle.literals.specs.Sets.{has, choose}
 use Rattle.program.specs.Program.{Program}
 use Rattle.program.specs.Limits.{Limits}
 use Rattle.program.specs.Table.{Holds}
-use Rattle.argument.specs.declared.Listed.{Listed}
-use Rattle.argument.specs.declared.Listed.the-variants.{Count, Over}
+use Rattle.listing.specs.declared.Listed.{Listed}
+use Rattle.listing.specs.declared.Listed.the-variants.{Count, Over}
 use Rattle.argument.specs.Fresh.{freshBy}
 use Rattle.argument.specs.List.{picked, listBy, argumentList}
 use Rattle.argument.specs.Closures.{closureAt}
 
 -- the literals of the arguments with mask m, a mask of so many rules
 abbrev pub freshIn : List ℕ → ℕ → ℕ → ℕ

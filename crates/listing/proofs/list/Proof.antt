@@ -6,16 +6,16 @@ use Prim.Native.Nat.{ℕ, _^_}
 use Rattle.program.specs.Program.{Program}
 use Rattle.program.specs.Limits.{Limits}
 use Rattle.program.specs.Table.{Holds}
 use Rattle.argument.specs.List.{argumentList}
 use Rattle.argument.specs.Closures.{Filled}
-use Rattle.argument.specs.Listing.{listIn}
+use Rattle.listing.specs.Listing.{listIn}
 use Rattle.argument.proofs.Entries.{room-kept}
-use Rattle.argument.proofs.Readings.{list-read}
-use Rattle.argument.proofs.Listings.{listed-over, kept-over, listed-count, written-list}
+use Rattle.listing.proofs.Readings.{list-read}
+use Rattle.listing.proofs.Listings.{listed-over, kept-over, listed-count, written-list}
 use native.Mathlib.Omega.{arith}
 use borrow.Author.Needs.{needs}
-use Rattle.argument.proofs.list.Statement.{statement}
-use Rattle.argument.proofs.list.Tie as tie
+use Rattle.listing.proofs.list.Statement.{statement}
+use Rattle.listing.proofs.list.Tie as tie
 
 -- the list is read off the table that was filled
 module _ (c : tie.After-bit-count) where

@@ -4,11 +4,11 @@ use Prim.Native.Nat.{_^_, _<_, _≤_, _-_}
 use lib.Count.{ones-le}
 use Rattle.literals.specs.Words.{setOf}
 use Rattle.literals.proofs.Words.{joined-below}
-use Rattle.argument.proofs.Listings.{Counted, counted-none, counted-next, counted-all}
+use Rattle.listing.proofs.Listings.{Counted, counted-none, counted-next, counted-all}
 use borrow.Author.Needs.{needs}
 use native.Mathlib.Omega.{arith}
-use Rattle.argument.proofs.arguments.count.Statement.{statement}
-use Rattle.argument.proofs.arguments.count.Tie as tie
+use Rattle.listing.proofs.arguments.count.Statement.{statement}
+use Rattle.listing.proofs.arguments.count.Tie as tie
 
 abbrev Inv-loop : tie.InvT-loop
 Inv-loop closures bits end found₀ mask₀ found mask = Counted closures bits end mask found

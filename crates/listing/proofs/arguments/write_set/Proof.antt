@@ -5,13 +5,13 @@ use mathlib.Core.List.{List, _++_}
 use Prim.Native.Nat.{ℕ, _+_}
 use lib.ListN.{length, length-append}
 use Rattle.literals.specs.Words.{setOf}
-use Rattle.argument.specs.Listing.{membersFrom}
-use Rattle.argument.proofs.Picks.{members-words}
-use Rattle.argument.proofs.Listings.{written-append}
+use Rattle.listing.specs.Listing.{membersFrom}
+use Rattle.listing.proofs.Picks.{members-words}
+use Rattle.listing.proofs.Listings.{written-append}
 use native.Mathlib.Omega.{arith}
 use borrow.Author.Needs.{needs}
-use Rattle.argument.proofs.arguments.write_set.Statement.{statement}
-use Rattle.argument.proofs.arguments.write_set.Tie as tie
+use Rattle.listing.proofs.arguments.write_set.Statement.{statement}
+use Rattle.listing.proofs.arguments.write_set.Tie as tie
 
 module _ (c : tie.Start) where
   abbrev low : List ℕ
