@@ -29,6 +29,9 @@ pub fn find(loaded: &Loaded, word: &str, page: &str) -> Result<Asked, Fault> {
             page,
         )
     })?;
+    if loaded.from_image && !is_image_atom(&literal.atom.name) {
+        return Err(Fault::Question(no_names(loaded.program.atoms.len())));
+    }
     let opposite = Literal {
         negated: !literal.negated,
         ..literal.clone()
@@ -46,14 +49,38 @@ pub fn find(loaded: &Loaded, word: &str, page: &str) -> Result<Asked, Fault> {
     })
 }
 
-/// For a name that no rule has: the nearest one that is there, as it may be a slip of the pen.
-pub fn nearest(loaded: &Loaded, asked: &Asked) -> String {
+/// `a` and a number, as `show` writes it.
+fn is_image_atom(name: &str) -> bool {
+    let digits = name.strip_prefix('a').unwrap_or("");
+    let plain = digits == "0" || !digits.starts_with('0');
+    plain && !digits.is_empty() && digits.bytes().all(|digit| digit.is_ascii_digit())
+}
+
+fn no_names(atoms: usize) -> String {
+    let own = match atoms {
+        0 => "this one has no atoms".to_string(),
+        1 => "its atom is a0".to_string(),
+        _ => format!("its atoms are a0 to a{}", atoms - 1),
+    };
+    format!("an image has no names; {own}, or write a literal's number")
+}
+
+/// For a name that no rule has: that it is a label, or the nearest name that is there, as it may be a slip of the
+/// pen. The names of an image are numbers, and no number is a slip of another.
+pub fn hint(loaded: &Loaded, asked: &Asked) -> String {
     let name = asked.name.trim_start_matches('~');
-    if asked.number.is_some() {
+    if asked.number.is_some() || loaded.from_image {
         return String::new();
     }
-    let atoms = loaded
-        .program
+    let program = &loaded.program;
+    let mut rules = program.rules.iter();
+    if let Some(rule) = rules.find(|rule| rule.label.as_deref() == Some(name)) {
+        let head = program.literal(rule.head);
+        return format!(
+            "{name} is the label of a rule: ask about a literal, such as its head {head}.\n"
+        );
+    }
+    let atoms = program
         .atoms
         .iter()
         .map(|atom| (distance(atom, name), atom));

@@ -2,23 +2,42 @@
 
 use std::fs;
 
-use crate::asked::{find, nearest, Asked};
+use crate::asked::{find, hint, Asked};
 use crate::engine::{self, Answer, Verdict, MOST_NODES};
-use crate::explain::{answer_line, count, meaning, tell, trees};
-use crate::fault::Fault;
-use crate::load::{load, load_image, Loaded};
-use crate::words::{sort, usage, Own};
+use crate::explain::{answer_line, count, meaning, tell, trees, Told};
+use crate::fault::{plain, Fault};
+use crate::load::{load, load_image, names_image, same_file, Loaded, STANDARD_INPUT};
+use crate::program::Program;
+use crate::words::{form, sort, usage, Words};
 use crate::{help, svg};
 
 type Command = fn(&[String]) -> Result<String, Fault>;
+
+const VERSION: &str = concat!("foqtirel ", env!("CARGO_PKG_VERSION"), "\n");
 
 /// Runs the command that the words after the program's name ask for.
 pub fn run(words: &[String]) -> Result<String, Fault> {
     let Some((command, rest)) = words.split_first() else {
         return Err(usage("no command", help::ALL));
     };
-    let (page, act): (&str, Command) = match command.as_str() {
-        "--help" | "-h" | "help" => return Ok(help::ALL.to_string()),
+    match (command.as_str(), rest) {
+        ("--version" | "-V", _) => return Ok(VERSION.to_string()),
+        ("help", [command, ..]) if !command.starts_with('-') => {
+            return Ok(named(command)?.0.to_string())
+        }
+        ("--help" | "-h" | "help", _) => return Ok(help::ALL.to_string()),
+        _ => {}
+    }
+    let (page, act) = named(command)?;
+    if rest.iter().any(|word| word == "--help" || word == "-h") {
+        return Ok(page.to_string());
+    }
+    act(rest)
+}
+
+/// A command's page and what it does.
+fn named(command: &str) -> Result<(&'static str, Command), Fault> {
+    Ok(match command {
         "compile" => (help::COMPILE, compile_file),
         "show" => (help::SHOW, show),
         "ask" => (help::ASK, ask),
@@ -26,36 +45,75 @@ pub fn run(words: &[String]) -> Result<String, Fault> {
         "tree" => (help::TREE, tree),
         "advise" => (help::ADVISE, advise),
         other => return Err(usage(&format!("no command `{other}`"), help::ALL)),
-    };
-    if rest.iter().any(|word| word == "--help" || word == "-h") {
-        return Ok(page.to_string());
+    })
+}
+
+/// Told before anything is read: what is written may not go over the program.
+fn check_output(words: &Words, out: &str) -> Result<(), Fault> {
+    let told = plain(out);
+    if out == STANDARD_INPUT {
+        return Err(Fault::Usage(format!("cannot write `{told}`: name a file")));
     }
-    act(rest)
+    if same_file(words.places[0], out) {
+        return Err(Fault::Usage(format!(
+            "{told} is the program itself: name another file to write"
+        )));
+    }
+    Ok(())
 }
 
 fn write(path: &str, bytes: &[u8]) -> Result<(), Fault> {
-    fs::write(path, bytes).map_err(|error| Fault::Usage(format!("cannot write {path}: {error}")))
+    fs::write(path, bytes)
+        .map_err(|error| Fault::Usage(format!("cannot write {}: {error}", plain(path))))
 }
 
 fn compile_file(words: &[String]) -> Result<String, Fault> {
-    let words = sort(words, 1, Own::Option("-o"), help::COMPILE)?;
-    let out = words
-        .value
-        .ok_or_else(|| usage("`-o IMAGE` is missing", help::COMPILE))?;
-    let Loaded { image, program, .. } = load(words.places[0])?;
-    write(out, &image)?;
+    let words = sort(words, &form(1, &["-o"], &["--names"], help::COMPILE))?;
+    let (out, names) = (words.value("-o"), words.flag("--names"));
+    if out.is_none() && !names {
+        return Err(usage("`-o IMAGE` is missing", help::COMPILE));
+    }
+    if let Some(out) = out {
+        check_output(&words, out)?;
+    }
+    let loaded = load(words.places[0])?;
+    let mut told = String::new();
+    if let Some(out) = out {
+        write(out, &loaded.image)?;
+        told += &written(out, &loaded);
+    }
+    if names {
+        told += &numbered(&loaded.program);
+    }
+    Ok(told)
+}
+
+/// What was written, with a note where this tool would not read it back.
+fn written(out: &str, Loaded { image, program, .. }: &Loaded) -> String {
     let defeasible = program.rules.iter().filter(|rule| rule.defeasible).count();
-    Ok(format!(
-        "{out}: {}, {}, {} ({defeasible} defeasible), {}\n",
+    let note = match names_image(out) {
+        true => "",
+        false => "note: only a file whose name ends in .img is read as an image\n",
+    };
+    format!(
+        "{}: {}, {}, {} ({defeasible} defeasible), {}\n{note}",
+        plain(out),
         count(image.len(), "byte"),
         count(program.atoms.len(), "atom"),
         count(program.rules.len(), "rule"),
         count(program.pairs.len(), "pair")
-    ))
+    )
+}
+
+/// The literals with their numbers, which are what the C call takes.
+fn numbered(program: &Program) -> String {
+    (0..2 * program.atoms.len())
+        .map(|literal| format!("{literal} {}\n", program.literal(literal as u8)))
+        .collect()
 }
 
 fn show(words: &[String]) -> Result<String, Fault> {
-    let words = sort(words, 1, Own::Nothing, help::SHOW)?;
+    let words = sort(words, &form(1, &[], &[], help::SHOW))?;
     Ok(load_image(words.places[0])?.program.text())
 }
 
@@ -72,63 +130,92 @@ fn verdict(loaded: &Loaded, asked: &Asked, budget: u32) -> Result<Verdict, Fault
             forest: Vec::new(),
         }),
     };
-    Ok(result?)
+    result.map_err(|refusal| loaded.refused(refusal))
+}
+
+/// A question as its words put it.
+struct Question {
+    loaded: Loaded,
+    asked: Asked,
+    verdict: Verdict,
+}
+
+fn question(words: &Words, page: &str) -> Result<Question, Fault> {
+    let budget = match words.value("--budget").map(str::parse::<u32>) {
+        None => MOST_NODES,
+        Some(Ok(budget)) if budget <= MOST_NODES => budget,
+        Some(_) => return Err(usage("a budget is 0 to 4096", page)),
+    };
+    let loaded = load(words.places[0])?;
+    let asked = find(&loaded, words.places[1], page)?;
+    let verdict = verdict(&loaded, &asked, budget)?;
+    Ok(Question {
+        loaded,
+        asked,
+        verdict,
+    })
+}
+
+impl Question {
+    fn answer(&self) -> String {
+        answer_line(&self.asked.name, &self.asked.complement, &self.verdict) + "\n"
+    }
+
+    fn hint(&self) -> String {
+        hint(&self.loaded, &self.asked)
+    }
+
+    fn told(&self) -> Result<Vec<Told>, Fault> {
+        let loaded = &self.loaded;
+        let arguments = engine::list(&loaded.image).map_err(|refusal| loaded.refused(refusal))?;
+        Ok(tell(&loaded.program, &arguments, &self.verdict))
+    }
 }
 
 fn ask(words: &[String]) -> Result<String, Fault> {
-    let words = sort(words, 2, Own::Option("--budget"), help::ASK)?;
-    let budget = match words.value.map(str::parse::<u32>) {
-        None => MOST_NODES,
-        Some(Ok(budget)) if budget <= MOST_NODES => budget,
-        Some(_) => return Err(usage("a budget is 0 to 4096", help::ASK)),
-    };
-    let loaded = load(words.places[0])?;
-    let asked = find(&loaded, words.places[1], help::ASK)?;
-    let verdict = verdict(&loaded, &asked, budget)?;
-    Ok(answer_line(&asked.name, &asked.complement, &verdict) + "\n" + &nearest(&loaded, &asked))
+    let words = sort(words, &form(2, &["--budget"], &[], help::ASK))?;
+    let question = question(&words, help::ASK)?;
+    Ok(question.answer() + &question.hint())
 }
 
 fn explain(words: &[String]) -> Result<String, Fault> {
-    let words = sort(words, 2, Own::Flag("--ascii"), help::EXPLAIN)?;
-    let loaded = load(words.places[0])?;
-    let asked = find(&loaded, words.places[1], help::EXPLAIN)?;
-    let verdict = verdict(&loaded, &asked, MOST_NODES)?;
-    let answer = answer_line(&asked.name, &asked.complement, &verdict) + "\n";
-    match (verdict.answer, asked.number) {
+    let words = sort(words, &form(2, &["--budget"], &["--ascii"], help::EXPLAIN))?;
+    let question = question(&words, help::EXPLAIN)?;
+    let program = &question.loaded.program;
+    match (question.verdict.answer, question.asked.number) {
         (Answer::Yes | Answer::No | Answer::Undecided, Some(number)) => {
-            let arguments = engine::list(&loaded.image)?;
-            let told = tell(&loaded.program, &arguments, &verdict);
-            Ok(trees(&loaded.program, &told, number as u8, words.flag) + &answer)
+            let ascii = words.flag("--ascii");
+            Ok(trees(program, &question.told()?, number as u8, ascii) + &question.answer())
         }
-        _ => Ok(answer + &nearest(&loaded, &asked)),
+        _ => Ok(question.answer() + &question.hint()),
     }
 }
 
 fn tree(words: &[String]) -> Result<String, Fault> {
-    let words = sort(words, 2, Own::Option("--svg"), help::TREE)?;
+    let words = sort(words, &form(2, &["--svg", "--budget"], &[], help::TREE))?;
     let out = words
-        .value
+        .value("--svg")
         .ok_or_else(|| usage("`--svg OUT` is missing", help::TREE))?;
-    let loaded = load(words.places[0])?;
-    let asked = find(&loaded, words.places[1], help::TREE)?;
-    let verdict = verdict(&loaded, &asked, MOST_NODES)?;
-    let arguments = engine::list(&loaded.image)?;
-    let told = tell(&loaded.program, &arguments, &verdict);
+    check_output(&words, out)?;
+    let question = question(&words, help::TREE)?;
+    let Question { asked, verdict, .. } = &question;
     let heading = format!(
         "{}: {}, {}",
         asked.name,
         verdict.answer.name(),
         count(verdict.nodes as usize, "node")
     );
-    let sentence = meaning(&asked.name, &asked.complement, &verdict) + ".";
-    write(out, svg::picture(&heading, &sentence, &told).as_bytes())?;
-    Ok(format!("{out}: {heading}\n"))
+    let sentence = meaning(&asked.name, &asked.complement, verdict) + ".";
+    let picture = svg::picture(&heading, &sentence, &question.told()?);
+    write(out, picture.as_bytes())?;
+    Ok(format!("{}: {heading}\n{}", plain(out), question.hint()))
 }
 
 fn advise(words: &[String]) -> Result<String, Fault> {
-    let words = sort(words, 1, Own::Nothing, help::ADVISE)?;
-    let Loaded { image, program, .. } = load(words.places[0])?;
-    let arguments = engine::list(&image)?;
+    let words = sort(words, &form(1, &[], &[], help::ADVISE))?;
+    let loaded = load(words.places[0])?;
+    let Loaded { image, program, .. } = &loaded;
+    let arguments = engine::list(image).map_err(|refusal| loaded.refused(refusal))?;
     let names: Vec<String> = (0..2 * program.atoms.len())
         .map(|literal| program.literal(literal as u8))
         .collect();
@@ -139,7 +226,8 @@ fn advise(words: &[String]) -> Result<String, Fault> {
         .unwrap_or(0);
     let mut text = format!("arguments {}\n", arguments.len());
     for (literal, name) in names.iter().enumerate() {
-        let Verdict { answer, nodes, .. } = engine::query(&image, literal as u32, MOST_NODES)?;
+        let result = engine::query(image, literal as u32, MOST_NODES);
+        let Verdict { answer, nodes, .. } = result.map_err(|refusal| loaded.refused(refusal))?;
         text += &format!("{name:widest$}  {:10}  {nodes}\n", answer.name());
     }
     Ok(text)

@@ -77,6 +77,17 @@ pub struct Refusal {
 }
 
 impl Refusal {
+    /// What a refusal is about: the file, and the rule or pair in it that its place is. The causes 20 to 22 are about
+    /// the question.
+    pub fn subject(&self, file: &str) -> String {
+        match self.number {
+            4..=10 => format!("{file}, rule {} counted from 0: ", self.place),
+            12 | 13 => format!("{file}, pair {} counted from 0: ", self.place),
+            20..=22 => String::new(),
+            _ => format!("{file}: "),
+        }
+    }
+
     pub fn meaning(&self) -> &'static str {
         match self.number {
             1 => "an image has 12 to 1,836 bytes",

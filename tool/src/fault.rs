@@ -11,6 +11,11 @@ pub struct Span {
 }
 
 impl Span {
+    /// Whether another starts right where this ends.
+    pub fn touches(self, next: Span) -> bool {
+        self.line == next.line && self.column + self.length == next.column
+    }
+
     /// From here to another's end, where that is on the same line.
     pub fn to(self, end: Span) -> Span {
         match self.line == end.line && self.column <= end.column {
@@ -42,25 +47,93 @@ impl Flaw {
 
     /// The flaw with its source line and a caret below it.
     pub fn render(&self, name: &str, text: &str) -> String {
-        let Span {
-            line,
-            column,
-            length,
-        } = self.at;
-        let shown = text.lines().nth(line - 1).unwrap_or("");
-        // A tab stays a tab, so that the caret stands below its place.
-        let lead: String = shown
-            .chars()
-            .take(column - 1)
-            .map(|c| if c == '\t' { c } else { ' ' })
-            .collect();
-        let caret = "^".repeat(length.max(1));
+        let Span { line, column, .. } = self.at;
+        let (shown, below) = echo(text.lines().nth(line - 1).unwrap_or(""), self.at);
         let margin = " ".repeat(line.to_string().len());
         format!(
-            "{name}:{line}:{column}: error: {}\n {line} | {shown}\n {margin} | {lead}{caret}\n help: {}\n",
-            self.what, self.help
+            "{}:{line}:{column}: error: {}\n {line} | {shown}\n {margin} | {below}\n help: {}\n",
+            plain(name),
+            self.what,
+            self.help
         )
     }
+}
+
+/// So many columns of a line are shown, and so many of them before the place.
+const WINDOW: usize = 100;
+const BEFORE: usize = 40;
+
+/// A line, or what is around the place where it is long, and what goes below it with the caret.
+fn echo(line: &str, at: Span) -> (String, String) {
+    let place = at.column - 1;
+    let length = line.chars().count();
+    // No character is narrower than a column, so those further away are never shown.
+    let from = place.saturating_sub(WINDOW);
+    let near = line.chars().skip(from).take(place - from + WINDOW);
+    let near: Vec<(char, String)> = near.map(|c| (c, shown(c))).collect();
+    let (first, end) = window(&near, place - from);
+    let cut = |yes: bool| if yes { ".." } else { "" };
+    let mut echoed = cut(from + first > 0).to_string();
+    let mut below = " ".repeat(echoed.len());
+    let mut carets = String::new();
+    for (index, (c, one)) in near.iter().enumerate().take(end).skip(first) {
+        echoed += one;
+        match from + index {
+            // A tab stays a tab, so that the caret stands below its place.
+            before if before < place && *c == '\t' => below.push('\t'),
+            before if before < place => below += &" ".repeat(width(one)),
+            within if within < place + at.length => carets += &"^".repeat(width(one)),
+            _ => {}
+        }
+    }
+    // The place may be the line's end, where there is no character.
+    below += if carets.is_empty() { "^" } else { &carets };
+    (echoed + cut(from + end < length), below)
+}
+
+fn shown(c: char) -> String {
+    match c {
+        '\t' => c.to_string(),
+        _ => plain(&c.to_string()),
+    }
+}
+
+fn width(shown: &str) -> usize {
+    shown.chars().count()
+}
+
+/// The first character to show and the end of those to show: what is not used after the place is used before it.
+fn window(near: &[(char, String)], place: usize) -> (usize, usize) {
+    let place = place.min(near.len());
+    let after: usize = near[place..].iter().map(|(_, one)| width(one)).sum();
+    let mut room = BEFORE.max(WINDOW.saturating_sub(after));
+    let mut first = place;
+    while first > 0 && width(&near[first - 1].1) <= room {
+        first -= 1;
+        room -= width(&near[first].1);
+    }
+    let used: usize = near[first..place].iter().map(|(_, one)| width(one)).sum();
+    let (mut room, mut end) = (WINDOW - used, place);
+    while end < near.len() && width(&near[end].1) <= room {
+        room -= width(&near[end].1);
+        end += 1;
+    }
+    (first, end)
+}
+
+/// A text with what a terminal would not show, or would obey, written out.
+pub fn plain(text: &str) -> String {
+    let invisible = |c: char| {
+        c.is_control()
+            || matches!(c, '\u{ad}' | '\u{61c}' | '\u{200b}'..='\u{200f}' | '\u{2028}'..='\u{202e}'
+                | '\u{2060}'..='\u{206f}' | '\u{feff}')
+    };
+    text.chars()
+        .map(|c| match invisible(c) {
+            true => c.escape_debug().to_string(),
+            false => c.to_string(),
+        })
+        .collect()
 }
 
 #[derive(Clone, Debug, PartialEq, Eq)]
@@ -69,36 +142,35 @@ pub enum Fault {
     Usage(String),
     /// A flaw in a text, as rendered.
     Text(String),
-    /// The engine turned the order away; the second part says more where more is known.
-    Refused(Refusal, String),
-}
-
-impl From<Refusal> for Fault {
-    fn from(refusal: Refusal) -> Fault {
-        Fault::Refused(refusal, String::new())
-    }
+    /// A question that the program can't be asked.
+    Question(String),
+    /// The engine turned an order about a file away; the last part says more where more is known.
+    Refused(Refusal, String, String),
 }
 
 impl Fault {
+    pub fn refused(refusal: Refusal, file: &str) -> Fault {
+        Fault::Refused(refusal, plain(file), String::new())
+    }
+
     pub fn status(&self) -> u8 {
         match self {
             Fault::Usage(_) => 2,
-            Fault::Text(_) | Fault::Refused(..) => 1,
+            Fault::Text(_) | Fault::Question(_) | Fault::Refused(..) => 1,
         }
     }
 
     pub fn render(&self) -> String {
         match self {
-            Fault::Usage(words) => format!("foqtirel: {words}\n"),
+            Fault::Usage(words) | Fault::Question(words) => format!("foqtirel: {words}\n"),
             Fault::Text(words) => words.clone(),
-            Fault::Refused(refusal, more) => {
+            Fault::Refused(refusal, file, more) => {
                 let Refusal { number, place } = *refusal;
-                let more = if more.is_empty() {
-                    String::new()
-                } else {
-                    format!(": {more}")
-                };
-                format!("refused {number} {place}: {}{more}\n", refusal.meaning())
+                format!(
+                    "refused {number} {place}: {}{}{more}\n",
+                    refusal.subject(file),
+                    refusal.meaning()
+                )
             }
         }
     }

@@ -10,8 +10,9 @@ foqtirel: answers from rules that have exceptions, by a proved engine
     foqtirel tree FILE LITERAL --svg OUT the trees as a picture
     foqtirel advise FILE                 the answers to all literals
 
-FILE is a program text or, where its name ends in .img, an image.
-`foqtirel COMMAND --help` says more.
+FILE is a program text or, where its name ends in .img, an image; `-` is a text
+from standard input. `foqtirel COMMAND --help` says more, `foqtirel --version`
+which version this is.
 
     % comments go to the line's end
     base_a.                               a fact
@@ -22,16 +23,22 @@ FILE is a program text or, where its name ends in .img, an image.
     flies(tina) -< bird(tina).            ground terms are names
     :- atoms base_a, fits.                numbers atoms, names ones in no rule
 
-Exit status: 0 with an answer, 1 for an error in the program or a refusal,
+YES, NO, UNDECIDED, UNKNOWN and UNFINISHED are all answers. `ask` prints the
+answer as its first word, and a script tells them apart by that.
+
+Exit status: 0 with any answer, 1 for an error in the program or a refusal,
 2 for wrong usage or a file that can't be read or written.
 ";
 
 pub const COMPILE: &str = "\
-foqtirel compile FILE -o IMAGE
+foqtirel compile FILE [-o IMAGE] [--names]
 
 Compiles a program text and writes its image. Nothing is written where the text
 has an error, or where its facts and strict rules contradict each other.
 Atoms are numbered by first occurrence, or as a line `:- atoms a, b, c.` says.
+An image holds no names: --names prints each literal's number, which is what the
+C call takes, with its name, one literal a line.
+IMAGE ends in .img where this tool is to read it.
 ";
 
 pub const SHOW: &str = "\
@@ -52,13 +59,16 @@ Prints the answer, the number of nodes of the trees it rests on, and what it mea
     UNKNOWN     no rule mentions its atom
     UNFINISHED  its trees have more nodes than the budget
 
+All five are answers, with exit status 0; a script tells them apart by the first
+word: `foqtirel ask FILE LITERAL | cut -d' ' -f1`.
+
 N is 0 to 4096, and 4096 where it is not given. Quote a literal with `~` or `(`
 for the shell: '~fits'. In an image, atoms are a0, a1, .., and a literal may be
 given by its number.
 ";
 
 pub const EXPLAIN: &str = "\
-foqtirel explain FILE LITERAL [--ascii]
+foqtirel explain FILE LITERAL [--ascii] [--budget N]
 
 Prints the dialectical trees of all arguments for the literal and for its
 complement, then the answer. Each node shows its mark, what it concludes and by
@@ -68,15 +78,15 @@ it proper or blocking.
     U  undefeated: each defeater below it is D
     D  defeated: some defeater below it is U
 
---ascii draws the branches with plain characters.
+--ascii draws the branches with plain characters. The budget is that of `ask`.
 ";
 
 pub const TREE: &str = "\
-foqtirel tree FILE LITERAL --svg OUT
+foqtirel tree FILE LITERAL --svg OUT [--budget N]
 
 Writes the trees of `explain` as an SVG picture. Undefeated nodes are blue with
 round ends, defeated ones orange with cut corners; a solid line leads from a
-proper defeater, a dashed one from a blocking one.
+proper defeater, a dashed one from a blocking one. The budget is that of `ask`.
 ";
 
 pub const ADVISE: &str = "\

@@ -1,6 +1,6 @@
 //! A text as tokens, each with its place.
 
-use crate::fault::Span;
+use crate::fault::{plain, Span};
 
 #[derive(Clone, Debug, PartialEq, Eq)]
 pub enum Token {
@@ -23,6 +23,14 @@ pub enum Token {
 }
 
 impl Token {
+    /// The letters and digits of a name or a number.
+    pub fn word(&self) -> Option<&str> {
+        match self {
+            Token::Name(word) | Token::Number(word) => Some(word),
+            _ => None,
+        }
+    }
+
     /// The token as an error message shows it.
     pub fn shown(&self) -> String {
         let text = match self {
@@ -37,8 +45,7 @@ impl Token {
             Token::Greater => ">",
             Token::Open => "(",
             Token::Close => ")",
-            Token::Stray(c) if c.is_control() => return format!("`{}`", c.escape_debug()),
-            Token::Stray(c) => return format!("`{c}`"),
+            Token::Stray(c) => return format!("`{}`", plain(&c.to_string())),
             Token::End => return "the end of the text".to_string(),
         };
         format!("`{text}`")

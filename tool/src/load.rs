@@ -1,12 +1,13 @@
 //! Files to programs, with every reason why one can't be had.
 
 use std::fs;
-use std::io::Read;
+use std::io::{self, Read};
+use std::os::unix::fs::MetadataExt;
 use std::string::FromUtf8Error;
 
 use crate::compile::compile;
-use crate::engine::{self, CONTRADICTION};
-use crate::fault::{Fault, Flaw, Span};
+use crate::engine::{self, Refusal, CONTRADICTION};
+use crate::fault::{plain, Fault, Flaw, Span};
 use crate::program::Program;
 use crate::source::Source;
 use crate::{image, reason, text};
@@ -21,30 +22,57 @@ pub struct Loaded {
     pub image: Vec<u8>,
     pub program: Program,
     pub from_image: bool,
+    /// The file as messages name it.
+    pub name: String,
+}
+
+impl Loaded {
+    pub fn refused(&self, refusal: Refusal) -> Fault {
+        Fault::refused(refusal, &self.name)
+    }
+}
+
+/// As FILE, the standard input.
+pub const STANDARD_INPUT: &str = "-";
+
+/// What messages call a file.
+fn name_of(path: &str) -> &str {
+    if path == STANDARD_INPUT {
+        "standard input"
+    } else {
+        path
+    }
+}
+
+pub fn names_image(path: &str) -> bool {
+    path.ends_with(".img")
 }
 
 /// A file by its name: an image where that ends in `.img`, else a text.
 pub fn load(path: &str) -> Result<Loaded, Fault> {
-    if path.ends_with(".img") {
+    if names_image(path) {
         return load_image(path);
     }
+    let name = name_of(path);
     let bytes = read(path, MOST_TEXT)?;
     if bytes.len() as u64 > MOST_TEXT {
         return Err(Fault::Usage(format!(
-            "{path} has over {MOST_TEXT} bytes: that is no program text"
+            "{} has over {MOST_TEXT} bytes: that is no program text",
+            plain(name)
         )));
     }
     let text = match String::from_utf8(bytes) {
         Ok(text) => text,
-        Err(error) => return Err(not_text(path, error)),
+        Err(error) => return Err(not_text(name, error)),
     };
     let (image, program) =
-        load_text(&text).map_err(|flaw| Fault::Text(flaw.render(path, &text)))?;
-    engine::check(&image)?;
+        load_text(&text).map_err(|flaw| Fault::Text(flaw.render(name, &text)))?;
+    engine::check(&image).map_err(|refusal| Fault::refused(refusal, name))?;
     Ok(Loaded {
         image,
         program,
         from_image: false,
+        name: name.to_string(),
     })
 }
 
@@ -75,14 +103,20 @@ fn clash_flaw(source: &Source, rule: usize, earlier: usize) -> Flaw {
 
 /// An image, decoded only once the engine has found it sound but for a contradiction.
 pub fn load_image(path: &str) -> Result<Loaded, Fault> {
+    let name = name_of(path);
     let image = read(path, MOST_IMAGE)?;
     let refusal = engine::check(&image).err();
     if let Some(refusal) = refusal.filter(|refusal| refusal.number != CONTRADICTION) {
-        return Err(refusal.into());
+        return Err(Fault::Refused(
+            refusal,
+            plain(name),
+            told_text(path, &image),
+        ));
     }
     let Some(program) = image::decode(&image) else {
         return Err(Fault::Usage(format!(
-            "{path} is accepted but can't be read"
+            "{} is accepted but can't be read",
+            plain(name)
         )));
     };
     match refusal {
@@ -90,8 +124,9 @@ pub fn load_image(path: &str) -> Result<Loaded, Fault> {
             image,
             program,
             from_image: true,
+            name: name.to_string(),
         }),
-        Some(refusal) => Err(Fault::Refused(refusal, told_clash(&program))),
+        Some(refusal) => Err(Fault::Refused(refusal, plain(name), told_clash(&program))),
     }
 }
 
@@ -101,18 +136,59 @@ fn told_clash(program: &Program) -> String {
     };
     let derived = [rule, earlier].map(|number| program.literal(program.rules[number].head));
     format!(
-        "they derive {} (rule {rule}) and {} (rule {earlier})",
+        ": they derive {} (rule {rule}) and {} (rule {earlier})",
         derived[0], derived[1]
     )
+}
+
+/// For a text where an image should be: what to do with it.
+fn told_text(path: &str, bytes: &[u8]) -> String {
+    match (is_text(bytes), names_image(path)) {
+        (false, _) => String::new(),
+        (true, true) => "\n help: this is a text; name it .delp".to_string(),
+        (true, false) => "\n help: this is a text; `show` reads an image".to_string(),
+    }
+}
+
+/// Letters in UTF-8 with no zero bytes. The last character may be cut, as no more is read than an image has.
+fn is_text(bytes: &[u8]) -> bool {
+    let sound = match std::str::from_utf8(bytes) {
+        Ok(_) => bytes.len(),
+        Err(error) if error.error_len().is_none() => error.valid_up_to(),
+        Err(_) => return false,
+    };
+    let text = String::from_utf8_lossy(&bytes[..sound]);
+    !text.contains('\0') && text.contains(char::is_alphabetic)
 }
 
 /// The file's bytes, but no more than one past the most: a longer file is told as too long, not taken in whole.
 fn read(path: &str, most: u64) -> Result<Vec<u8>, Fault> {
     let mut bytes = Vec::new();
-    let result = fs::File::open(path).and_then(|file| file.take(most + 1).read_to_end(&mut bytes));
+    let result = match path {
+        STANDARD_INPUT => io::stdin().take(most + 1).read_to_end(&mut bytes),
+        _ => fs::File::open(path).and_then(|file| file.take(most + 1).read_to_end(&mut bytes)),
+    };
     match result {
         Ok(_) => Ok(bytes),
-        Err(error) => Err(Fault::Usage(format!("cannot read {path}: {error}"))),
+        Err(error) => Err(Fault::Usage(format!(
+            "cannot read {}: {error}",
+            plain(name_of(path))
+        ))),
+    }
+}
+
+/// Whether what is to be written would go over what is read, under whatever names.
+pub fn same_file(input: &str, output: &str) -> bool {
+    let input = if input == STANDARD_INPUT {
+        "/dev/stdin"
+    } else {
+        input
+    };
+    match (fs::metadata(input), fs::metadata(output)) {
+        (Ok(one), Ok(other)) => {
+            one.is_file() && (one.dev(), one.ino()) == (other.dev(), other.ino())
+        }
+        _ => false,
     }
 }
 

@@ -1,4 +1,4 @@
-use std::io::Write;
+use std::io::{Error, ErrorKind, Write};
 use std::process::ExitCode;
 
 /// The engine walks down lines of up to 4,096 arguments on the stack.
@@ -20,7 +20,10 @@ fn main() -> ExitCode {
             let mut out = std::io::stdout();
             let written = out.write_all(text.as_bytes()).and_then(|()| out.flush());
             // An answer that nobody could read is no success.
-            ExitCode::from(if written.is_ok() { 0 } else { 2 })
+            ExitCode::from(match written {
+                Ok(()) => 0,
+                Err(error) => tell_unwritten(&error),
+            })
         }
         Err(fault) => {
             // Where even this can't be written, the status still tells.
@@ -28,4 +31,13 @@ fn main() -> ExitCode {
             ExitCode::from(fault.status())
         }
     }
+}
+
+/// A reader that went away, as `head` does, is told nothing.
+fn tell_unwritten(error: &Error) -> u8 {
+    if error.kind() != ErrorKind::BrokenPipe {
+        let told = format!("foqtirel: cannot write to standard output: {error}\n");
+        let _ = std::io::stderr().write_all(told.as_bytes());
+    }
+    2
 }

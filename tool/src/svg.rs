@@ -11,6 +11,8 @@ const RISE: f64 = 46.0;
 const MARGIN: f64 = 24.0;
 const ROW: f64 = 1500.0;
 const WRAP: usize = 34;
+/// A wider picture keeps its size and is scrolled.
+const WIDEST: f64 = 1600.0;
 
 struct Box {
     lines: Vec<(&'static str, String)>,
@@ -40,8 +42,9 @@ pub fn picture(heading: &str, meaning: &str, told: &[Told]) -> String {
     let tall = top + height + 70.0;
     let mut svg = format!(
         "<svg xmlns=\"http://www.w3.org/2000/svg\" viewBox=\"0 0 {full:.0} {tall:.0}\" width=\"{full:.0}\" \
-         height=\"{tall:.0}\" style=\"max-width:100%;height:auto\" role=\"img\">\n<title>{}</title>\n{STYLE}\
+         height=\"{tall:.0}\"{} role=\"img\">\n<title>{}</title>\n{STYLE}\
          <rect width=\"100%\" height=\"100%\" fill=\"#ffffff\"/>\n<text class=\"h\" x=\"{MARGIN}\" y=\"{:.0}\">{}</text>\n",
+        shrinking(full),
         escape(heading),
         MARGIN + 14.0,
         escape(heading)
@@ -63,6 +66,15 @@ pub fn picture(heading: &str, meaning: &str, told: &[Told]) -> String {
     svg += "</g>\n";
     svg += &legend(top + height + 34.0);
     svg + "</svg>\n"
+}
+
+/// A picture fits itself into a narrower page, but not where its text would become too small to read.
+fn shrinking(width: f64) -> &'static str {
+    if width > WIDEST {
+        ""
+    } else {
+        " style=\"max-width:100%;height:auto\""
+    }
 }
 
 const STYLE: &str = "<style>\n\

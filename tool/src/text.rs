@@ -7,6 +7,12 @@ use crate::source::{Literal, Named, Preference, Rule, Source};
 /// Terms nest no deeper, so that no text can use up the stack.
 const DEEPEST: usize = 16;
 
+/// The body of a rule that rests on nothing; no atom has this name.
+const TRUE: &str = "true";
+
+const NEGATION: &str = "strong negation is written `~`, as in `~fits`";
+const ARROWS: &str = "a strict rule is written with `<-`, a defeasible one with `-<`";
+
 pub fn read(text: &str) -> Result<Source, Flaw> {
     let mut reader = Reader {
         tokens: tokens(text),
@@ -30,11 +36,10 @@ pub fn read_literal(text: &str) -> Result<Literal, Flaw> {
         Token::End => Ok(literal),
         other => {
             let what = format!("{} after the literal", other.shown());
-            Err(Flaw::new(
-                reader.span(),
-                what,
-                "ask about one literal, such as `fits` or `~fits`",
-            ))
+            let help = reader
+                .underscored()
+                .unwrap_or_else(|| "ask about one literal, such as `fits` or `~fits`".to_string());
+            Err(Flaw::new(reader.span(), what, help))
         }
     }
 }
@@ -75,6 +80,11 @@ impl Reader {
     fn statement(&mut self, source: &mut Source) -> Result<(), Flaw> {
         match (self.peek(), self.ahead(1)) {
             (Token::Directive, _) => self.directive(&mut source.declared),
+            (Token::Number(number), Token::Colon | Token::Greater) => Err(Flaw::new(
+                self.span(),
+                format!("`{number}` where a rule's label should stand"),
+                format!("a label begins with a letter: write `r{number}`"),
+            )),
             (Token::Name(_), Token::Greater) => self.preference(&mut source.preferences),
             (Token::Name(_), Token::Colon) => {
                 let label = self.label()?;
@@ -104,7 +114,7 @@ impl Reader {
                     "write the atom alone; it stands for both signs",
                 ));
             }
-            declared.push(self.atom()?);
+            declared.push(self.atom("an atom")?);
             if !self.take(Token::Comma) {
                 return self.stop("`,` and the next atom, or `.`");
             }
@@ -151,10 +161,15 @@ impl Reader {
             head,
             body: Vec::new(),
         };
+        let mut expected = "`.`, `<-` or `-<`";
         match self.peek() {
             Token::Strict | Token::Defeasible => {
                 self.next();
                 self.body(&mut rule, sign)?;
+                expected = match rule.body.is_empty() {
+                    true => "`.`",
+                    false => "`,` and the next literal, or `.`",
+                };
             }
             other => {
                 if let Some((what, help)) = wrong_sign(other) {
@@ -162,23 +177,24 @@ impl Reader {
                 }
             }
         }
-        self.stop(if rule.body.is_empty() {
-            "`.`, `<-` or `-<`"
-        } else {
-            "`,` and the next literal, or `.`"
-        })?;
+        self.stop(expected)?;
         rules.push(rule);
         Ok(())
     }
 
     fn body(&mut self, rule: &mut Rule, sign: Span) -> Result<(), Flaw> {
         let head = rule.head.text();
-        let truth = *self.peek() == Token::Name("true".to_string()) && *self.ahead(1) == Token::Dot;
+        let truth = self.empty_body();
+        if truth && !rule.defeasible {
+            self.next();
+            return Ok(());
+        }
         if truth || *self.peek() == Token::Dot {
             let at = if truth { self.span() } else { sign };
             return Err(if rule.defeasible {
                 let help = format!(
-                    "name what it rests on, as in `{head} -< reason.`, or write the fact `{head}.`"
+                    "the engine takes no presumptions, so a defeasible rule rests on something: \
+                     name it, as in `{head} -< reason.`, or write the fact `{head}.`"
                 );
                 Flaw::new(at, "a defeasible rule without a body", help)
             } else {
@@ -197,6 +213,12 @@ impl Reader {
         }
     }
 
+    /// Whether the body is `true` alone.
+    fn empty_body(&self) -> bool {
+        *self.peek() == Token::Name(TRUE.to_string())
+            && !matches!(self.ahead(1), Token::Comma | Token::Open)
+    }
+
     fn literal(&mut self) -> Result<Literal, Flaw> {
         let start = self.span();
         let negated = self.take(Token::Not);
@@ -207,16 +229,20 @@ impl Reader {
                 "write the literal with one `~` or with none",
             ));
         }
-        let atom = self.atom()?;
+        let atom = self.atom("a literal")?;
         let at = start.to(atom.at);
         Ok(Literal { atom, negated, at })
     }
 
-    fn atom(&mut self) -> Result<Named, Flaw> {
-        let (token, at) = self.next();
-        let Token::Name(name) = token else {
-            return Err(stray(&token, at));
+    fn atom(&mut self, wanted: &str) -> Result<Named, Flaw> {
+        let Token::Name(name) = self.peek().clone() else {
+            return Err(self.stray(wanted));
         };
+        let (_, at) = self.next();
+        if name == TRUE && *self.peek() != Token::Open {
+            let help = "`a <- true.` is the fact `a.`: take `true` out, or write another name";
+            return Err(Flaw::new(at, "`true` is reserved for the empty body", help));
+        }
         if name == "not" && matches!(self.peek(), Token::Name(_) | Token::Not) {
             let help = "there is no negation as failure here; `~` is strong negation";
             return Err(Flaw::new(at, "`not` before a literal", help));
@@ -257,16 +283,16 @@ impl Reader {
         let mut terms = Vec::new();
         loop {
             terms.push(self.term(depth)?);
+            let joined = self.underscored();
             match self.next() {
                 (Token::Comma, _) => {}
                 (Token::Close, _) => return Ok(format!("({})", terms.join(", "))),
                 (other, at) => {
                     let what = format!("expected `,` or `)`, found {}", other.shown());
-                    return Err(Flaw::new(
-                        at,
-                        what,
-                        "write a term as `bird(tina)` or `flies(tina, high)`",
-                    ));
+                    let help = joined.unwrap_or_else(|| {
+                        "write a term as `bird(tina)` or `flies(tina, high)`".to_string()
+                    });
+                    return Err(Flaw::new(at, what, help));
                 }
             }
         }
@@ -318,9 +344,110 @@ impl Reader {
             ));
         }
         let what = format!("expected {expected}, found {}", self.peek().shown());
-        let help = stray_help(self.peek())
-            .unwrap_or("write `head.`, `head <- body.`, `head -< body.` or `label > label.`");
+        let help = self.advice().unwrap_or_else(|| {
+            "write `head.`, `head <- body.`, `head -< body.` or `label > label.`".to_string()
+        });
         Err(Flaw::new(here, what, help))
+    }
+
+    /// A token where a literal or an atom should stand.
+    fn stray(&self, wanted: &str) -> Flaw {
+        let what = format!("expected {wanted}, found {}", self.peek().shown());
+        let help = self.advice().unwrap_or_else(|| {
+            match self.peek() {
+                Token::Number(_) => "an atom starts with a small letter",
+                _ if wanted == "an atom" => "name the atoms, as in `:- atoms a, b, c.`",
+                _ => "a literal is an atom such as `fits` or `bird(tina)`, with `~` before it where it is negated",
+            }
+            .to_string()
+        });
+        Flaw::new(self.span(), what, help)
+    }
+
+    /// What to write for the character here, which other languages use, by what stands around it.
+    fn advice(&self) -> Option<String> {
+        let Token::Stray(here) = *self.peek() else {
+            return None;
+        };
+        let precise = match here {
+            '<' => self.turned().or_else(|| self.look_alike()),
+            ';' => Some(self.semicolon().to_string()),
+            _ if is_dash(here) => self.look_alike().or_else(|| self.underscored()),
+            _ => None,
+        };
+        precise.or_else(|| Some(stray_help(here).to_string()))
+    }
+
+    /// For `x < y` between two labels: the preference that was meant.
+    fn turned(&self) -> Option<String> {
+        let (Some((Token::Name(lesser), _)), Token::Name(greater)) =
+            (self.tokens[..self.at].last(), self.ahead(1))
+        else {
+            return None;
+        };
+        let labels = self.is_label(lesser) && self.is_label(greater);
+        labels.then(|| {
+            format!("a preference names the rule that wins first: write `{greater} > {lesser}.`")
+        })
+    }
+
+    fn is_label(&self, name: &str) -> bool {
+        self.tokens.windows(2).any(|pair| {
+            pair[1].0 == Token::Colon && matches!(&pair[0].0, Token::Name(label) if label == name)
+        })
+    }
+
+    /// For an arrow with a dash that only looks like `-`.
+    fn look_alike(&self) -> Option<String> {
+        let (Token::Stray(one), Token::Stray(other)) = (self.peek(), self.ahead(1)) else {
+            return None;
+        };
+        let dash = match (*one, *other) {
+            ('<', dash) | (dash, '<' | '≺') if is_dash(dash) => dash,
+            _ => return None,
+        };
+        Some(match dash {
+            '-' => ARROWS.to_string(),
+            _ => format!("`{dash}` is not `-`, though it looks like it: write `-<` or `<-`"),
+        })
+    }
+
+    /// For a dash within a name, as in `steel-ring`: the name with `_`.
+    fn underscored(&self) -> Option<String> {
+        let mut at = self.at.checked_sub(1)?;
+        let mut name = self.tokens[at].0.word()?.to_string();
+        while let [(_, before), (Token::Stray(dash), here), (next, after), ..] = &self.tokens[at..]
+        {
+            match next.word() {
+                Some(word) if is_dash(*dash) && before.touches(*here) && here.touches(*after) => {
+                    name = format!("{name}_{word}");
+                    at += 2;
+                }
+                _ => break,
+            }
+        }
+        let joined = at + 1 > self.at;
+        joined.then(|| format!("names use `_`: write `{name}`"))
+    }
+
+    fn semicolon(&self) -> &'static str {
+        let statement = self.tokens[..self.at]
+            .iter()
+            .rev()
+            .map(|(token, _)| token)
+            .take_while(|token| **token != Token::Dot);
+        let opens = statement
+            .filter(|token| matches!(token, Token::Strict | Token::Defeasible | Token::Directive))
+            .last();
+        let last =
+            *self.ahead(1) == Token::End || self.tokens[self.at + 1].1.line > self.span().line;
+        match opens {
+            Some(Token::Directive) if !last => "write `,` between the atoms",
+            Some(_) if !last => {
+                "write `,` between the literals of a body, which all must hold; for `or` write one rule for each"
+            }
+            _ => "end each fact, rule and preference with `.`",
+        }
     }
 }
 
@@ -351,27 +478,22 @@ fn wrong_sign(token: &Token) -> Option<(&'static str, &'static str)> {
     }
 }
 
-/// A token where a literal should stand.
-fn stray(token: &Token, at: Span) -> Flaw {
-    let what = format!("expected a literal, found {}", token.shown());
-    let help = stray_help(token).unwrap_or(match token {
-        Token::Number(_) => "an atom starts with a small letter",
-        _ => "a literal is an atom such as `fits` or `bird(tina)`, with `~` before it where it is negated",
-    });
-    Flaw::new(at, what, help)
+/// What to write for a character that other languages use.
+fn stray_help(here: char) -> &'static str {
+    match here {
+        '!' | '¬' | '\\' | '∼' | '˜' | '～' => NEGATION,
+        _ if is_dash(here) => NEGATION,
+        '<' | '=' | '≺' | '⤙' | '←' | '⟵' | '⇐' | '⟸' => ARROWS,
+        '/' | '#' => "a comment starts with `%`",
+        _ if here.is_control() => "a program is plain text; the name of an image ends in .img",
+        _ => "names have letters, digits and `_`",
+    }
 }
 
-/// What to write for a character that other languages use.
-fn stray_help(token: &Token) -> Option<&'static str> {
-    match token {
-        Token::Stray('-' | '!' | '¬' | '\\') => {
-            Some("strong negation is written `~`, as in `~fits`")
-        }
-        Token::Stray('<' | '←' | '=') => {
-            Some("a strict rule is written with `<-`, a defeasible one with `-<`")
-        }
-        Token::Stray('/' | '#') => Some("a comment starts with `%`"),
-        Token::Stray(_) => Some("names have letters, digits and `_`"),
-        _ => None,
-    }
+/// `-` and what an editor or a printed page puts in its place.
+fn is_dash(c: char) -> bool {
+    matches!(
+        c,
+        '-' | '\u{2010}'..='\u{2015}' | '\u{2212}' | '\u{fe63}' | '\u{ff0d}'
+    )
 }

@@ -14,9 +14,15 @@ const READING: &[Case] = &[
     ("a b.", 1, 3, "expected `.`, `<-` or `-<`, found `b`", "head -< body."),
     ("a <- b c.", 1, 8, "expected `,` and the next literal, or `.`, found `c`", "head <- body."),
     ("a <- .", 1, 3, "a strict rule without a body", "write the fact as `a.`"),
-    ("~a <- true.", 1, 7, "a strict rule without a body", "write the fact as `~a.`"),
     ("b.\na -< .", 2, 3, "a defeasible rule without a body", "`a -< reason.`"),
-    ("a -< true.", 1, 6, "a defeasible rule without a body", "write the fact `a.`"),
+    ("a -< true.", 1, 6, "a defeasible rule without a body", "the engine takes no presumptions"),
+    ("true.", 1, 1, "`true` is reserved for the empty body", "`a <- true.` is the fact `a.`"),
+    ("~true <- b.", 1, 2, "`true` is reserved for the empty body", "write another name"),
+    ("a <- b, true.", 1, 9, "`true` is reserved for the empty body", "take `true` out"),
+    ("a -< true, b.", 1, 6, "`true` is reserved for the empty body", "take `true` out"),
+    (":- atoms true.", 1, 10, "`true` is reserved for the empty body", "write another name"),
+    ("a <- true", 1, 10, "a `.` is missing", "end each fact"),
+    ("a <- true b.", 1, 11, "expected `.`, found `b`", "head <- body."),
     ("a <- b,.", 1, 8, "expected a literal, found `.`", "a literal is an atom"),
     ("a <- b", 1, 7, "a `.` is missing", "end each fact"),
     ("a <-", 1, 5, "expected a literal, found the end of the text", "a literal is an atom"),
@@ -43,6 +49,29 @@ const READING: &[Case] = &[
     (":- atoms a, ~b.", 1, 13, "a `~` among the atoms", "stands for both signs"),
     (":- atoms a b.", 1, 12, "expected `,` and the next atom, or `.`, found `b`", ""),
     ("r > s > t.", 1, 7, "a second `>` in one preference", "not chained"),
+    ("steel-ring.", 1, 6, "found `-`", "names use `_`: write `steel_ring`"),
+    ("a <- b, steel-ring-7.", 1, 14, "found `-`", "write `steel_ring_7`"),
+    ("b-3: a -< f.", 1, 2, "found `-`", "write `b_3`"),
+    ("p(steel–ring).", 1, 8, "expected `,` or `)`, found `–`", "write `steel_ring`"),
+    ("a -b.", 1, 3, "found `-`", "strong negation is written `~`"),
+    ("x: a -< f. y: ~a -< f.\nx < y.", 2, 3, "found `<`", "write `y > x.`"),
+    ("f;", 1, 2, "found `;`", "end each fact, rule and preference with `.`"),
+    ("a -< f;\nf.", 1, 7, "found `;`", "end each fact, rule and preference with `.`"),
+    ("f; g.", 1, 2, "found `;`", "end each fact, rule and preference with `.`"),
+    ("a -< f; g.", 1, 7, "found `;`", "write `,` between the literals of a body"),
+    (":- atoms a; b.", 1, 11, "found `;`", "write `,` between the atoms"),
+    ("a –< f.", 1, 3, "found `–`", "`–` is not `-`, though it looks like it: write `-<` or `<-`"),
+    ("a <— f.", 1, 3, "found `<`", "`—` is not `-`, though it looks like it: write `-<` or `<-`"),
+    ("a −≺ f.", 1, 3, "found `−`", "write `-<` or `<-`"),
+    ("a ← f.", 1, 3, "found `←`", "a strict rule is written with `<-`"),
+    ("a ⤙ f.", 1, 3, "found `⤙`", "a defeasible one with `-<`"),
+    ("a ⟵ f.", 1, 3, "found `⟵`", "a strict rule is written with `<-`"),
+    ("–a.", 1, 1, "found `–`", "strong negation is written `~`"),
+    ("3: a -< f.", 1, 1, "`3` where a rule's label should stand", "a label begins with a letter: write `r3`"),
+    ("3 > r.", 1, 1, "`3` where a rule's label should stand", "a label begins with a letter"),
+    (":- atoms.", 1, 9, "expected an atom, found `.`", "`:- atoms a, b, c.`"),
+    ("a\u{1b}[31m.", 1, 2, "found `\\u{1b}`", "a program is plain text"),
+    ("a \u{202e}b.", 1, 3, "found `\\u{202e}`", "letters, digits and `_`"),
     ("r > 3.", 1, 5, "`3` where a rule's label should stand", "write two labels"),
 ];
 
@@ -86,6 +115,15 @@ fn flaws_of_reading() {
     READING
         .iter()
         .for_each(|&(text, line, column, what, help)| check(text, line, column, what, help));
+}
+
+/// A rule with the empty body `true` is a fact; within a term, `true` is a word like others.
+#[test]
+fn true_is_the_empty_body() {
+    let image = |text: &str| load_text(text).unwrap().0;
+    assert_eq!(image("~a <- true."), image("~a."));
+    assert_eq!(image("r: a <- true. b -< a."), image("a. b -< a."));
+    assert_eq!(image("p(true)."), image("p(x)."));
 }
 
 #[test]
@@ -206,6 +244,55 @@ fn a_flaw_is_shown_with_its_line_and_a_caret() {
     assert!(!common::examples().join("x").exists());
 }
 
+/// The two lines of a flaw that show its place.
+fn echoed(text: &str) -> (String, String) {
+    let told = load_text(text).unwrap_err().render("x.delp", text);
+    let mut lines = told.lines().skip(1).map(|line| line[5..].to_string());
+    (lines.next().unwrap(), lines.next().unwrap())
+}
+
+#[test]
+fn of_a_long_line_only_what_is_around_the_place_is_shown() {
+    let (facts, more) = ("a. ".repeat(100), " b.".repeat(100));
+    for text in [
+        format!("{facts}c QQ.{more}"),
+        format!("{facts}c QQ."),
+        format!("c QQ.{more}"),
+    ] {
+        let (line, below) = echoed(&text);
+        assert!(line.len() <= 104, "{line}");
+        assert_eq!(line.starts_with(".."), text.starts_with("a"), "{line}");
+        assert_eq!(line.ends_with(".."), text.ends_with("b."), "{line}");
+        let (start, end) = (below.find('^').unwrap(), below.len());
+        assert_eq!((&line[start..end], below.trim()), ("QQ", "^^"));
+    }
+    let (line, below) = echoed(&format!("{facts}c"));
+    assert_eq!((line.len(), below.len()), (102, 103));
+    let (line, below) = echoed(&format!("c {}.", "q".repeat(1000)));
+    assert_eq!((line.len(), below.len()), (102, 100));
+}
+
+#[test]
+fn control_characters_are_shown_and_not_obeyed() {
+    let (line, below) = echoed("p(\u{1b}).");
+    assert_eq!((line.as_str(), below.as_str()), ("p(\\u{1b}).", "  ^^^^^^"));
+    let (line, below) = echoed("a.\r\u{c}b c.");
+    assert_eq!(
+        (line.as_str(), below.as_str()),
+        ("a.\\r\\u{c}b c.", "           ^")
+    );
+    let (line, below) = echoed(&format!("b{}", "\0".repeat(500)));
+    assert_eq!((line.len(), below.as_str()), (101, " ^^"));
+    let ran = common::run(&["ask", "no\u{1b}ne", "a"]);
+    assert!(ran.err.contains("cannot read no\\u{1b}ne"), "{}", ran.err);
+    let ran = common::run(&["ask", "shop.delp", "a\u{1b}"]);
+    assert!(
+        ran.err.contains("the literal `a\\u{1b}`: `\\u{1b}` after"),
+        "{}",
+        ran.err
+    );
+}
+
 #[test]
 fn bytes_that_are_no_text() {
     let path = common::scratch("errors").join("bytes.delp");
@@ -233,12 +320,80 @@ fn a_contradictory_image_is_told_with_its_literals() {
     .unwrap();
     for command in ["advise", "show"] {
         let ran = common::run(&[command, path.to_str().unwrap()]);
-        let told = "refused 14 0: the facts and strict rules contradict each other: they derive ~a0 (rule 1) and a0 (rule 0)\n";
-        assert_eq!(
-            (ran.status, ran.out.as_str(), ran.err.as_str()),
-            (1, "", told)
+        let told = format!(
+            "refused 14 0: {}: the facts and strict rules contradict each other: they derive ~a0 (rule 1) and a0 (rule 0)\n",
+            path.display()
         );
+        assert_eq!((ran.status, ran.out.as_str(), ran.err), (1, "", told));
     }
+}
+
+#[test]
+fn a_refusal_tells_the_file_and_the_place() {
+    let path = common::scratch("errors").join("broken.img");
+    let name = path.to_str().unwrap();
+    // a0. a1 -< a0. ~a1 -< a0. and the pairs 1 > 2 and 2 > 1.
+    let sound = [
+        2, 0, 3, 0, 2, 0, 0, 0, 24, 0, 2, 0, 26, 0, 3, 0, 29, 0, 3, 0, 32, 0, 4, 0, 0, 0, 1, 2, 0,
+        1, 3, 0, 1, 2, 2, 1,
+    ];
+    for (at, byte, told) in [
+        (0, 65, "refused 2 0: FILE: a count"),
+        (8, 25, "refused 3 0: FILE: the directory"),
+        (
+            29,
+            7,
+            "refused 5 2: FILE, rule 2 counted from 0: a rule is strict",
+        ),
+        (
+            28,
+            9,
+            "refused 6 1: FILE, rule 1 counted from 0: a rule has a literal",
+        ),
+        (
+            30,
+            2,
+            "refused 10 2: FILE, rule 2 counted from 0: a rule stands there twice",
+        ),
+        (4, 1, "refused 11 0: FILE: the last part"),
+        (
+            34,
+            0,
+            "refused 12 1: FILE, pair 1 counted from 0: a pair is not",
+        ),
+    ] {
+        let mut image = sound;
+        image[at] = byte;
+        std::fs::write(&path, image).unwrap();
+        let ran = common::run(&["ask", name, "a0"]);
+        let told = told.replace("FILE", name);
+        assert!(
+            ran.status == 1 && ran.err.starts_with(&told),
+            "{told}: {}",
+            ran.err
+        );
+        assert!(!ran.err.contains("help"), "{}", ran.err);
+    }
+    std::fs::write(&path, sound).unwrap();
+    assert_eq!(common::run(&["ask", name, "a0"]).status, 0);
+    let ran = common::run(&["advise", "../tests/vectors/args4097.img"]);
+    let told = "refused 23 0: ../tests/vectors/args4097.img: the program has more";
+    assert!(ran.err.starts_with(told), "{}", ran.err);
+}
+
+/// Also where the text is longer than an image, and the first bytes end within a character.
+#[test]
+fn a_text_in_the_place_of_an_image_is_told() {
+    let path = common::scratch("errors").join("text.img");
+    for text in ["a.\n".to_string(), "% é\n".repeat(400), "é".repeat(1000)] {
+        std::fs::write(&path, text).unwrap();
+        let ran = common::run(&["advise", path.to_str().unwrap()]);
+        let help = "\n help: this is a text; name it .delp\n";
+        assert!(ran.status == 1 && ran.err.ends_with(help), "{}", ran.err);
+    }
+    let ran = common::run(&["show", "shop.delp"]);
+    let help = "\n help: this is a text; `show` reads an image\n";
+    assert!(ran.status == 1 && ran.err.ends_with(help), "{}", ran.err);
 }
 
 /// Any bytes at all end in an error or an answer, never in a fault.
@@ -246,7 +401,7 @@ fn a_contradictory_image_is_told_with_its_literals() {
 fn no_text_makes_the_reader_fault() {
     let pieces = [
         "a", "~", "<-", "-<", ".", ",", ":", ":-", ">", "(", ")", "X", "7", "%", "\n", " ", "é",
-        "-", "atoms", "r:",
+        "-", "atoms", "r:", ";", "–", "<", "true", "\0",
     ];
     let mut state = 7u64;
     for _ in 0..20_000 {

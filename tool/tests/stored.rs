@@ -142,6 +142,18 @@ fn a_picture_has_every_node() {
     let roots = shapes - edges;
     assert_eq!((shapes, roots < 50), (4096 + 2, true));
     assert!(!svg.contains(" -< ") && svg.ends_with("</svg>\n"));
+    // So wide a picture is not made to fit a page.
+    assert!(!svg.contains("max-width"));
+}
+
+#[test]
+fn a_picture_keeps_the_budget() {
+    let out = common::scratch("picture").join("budget.svg");
+    let name = out.to_str().unwrap();
+    let ran = common::run(&["tree", "shop.delp", "pod_fits", "--budget=5", "--svg", name]);
+    let told = format!("{name}: pod_fits: UNFINISHED, 5 nodes\n");
+    assert_eq!((ran.status, ran.out), (0, told));
+    assert!(fs::read_to_string(out).unwrap().contains("max-width:100%"));
 }
 
 /// Marks by shape and colour, kinds by solid and dashed lines, each once more in the legend.

@@ -1,8 +1,8 @@
 //! Running the program, and work that calls the engine on a stack that is large enough.
 #![allow(dead_code)]
 
-use std::path::PathBuf;
-use std::process::Command;
+use std::path::{Path, PathBuf};
+use std::process::{Command, Output};
 
 pub struct Ran {
     pub status: i32,
@@ -18,12 +18,24 @@ pub fn examples() -> PathBuf {
     root().join("examples")
 }
 
-/// Runs the program in the directory of the examples.
+/// The program in the directory of the examples, ready to start.
+pub fn command(words: &[&str]) -> Command {
+    let mut command = Command::new(env!("CARGO_BIN_EXE_foqtirel"));
+    command.args(words).current_dir(examples());
+    command
+}
+
 pub fn run(words: &[&str]) -> Ran {
-    let output = Command::new(env!("CARGO_BIN_EXE_foqtirel"))
-        .args(words)
-        .current_dir(examples())
-        .output();
+    ran(command(words).output())
+}
+
+/// Runs the program with a file as its standard input.
+pub fn run_with_input(words: &[&str], input: &Path) -> Ran {
+    let input = std::fs::File::open(input).expect("the input is there");
+    ran(command(words).stdin(input).output())
+}
+
+fn ran(output: std::io::Result<Output>) -> Ran {
     let output = output.expect("the program starts");
     let text = |bytes: Vec<u8>| String::from_utf8(bytes).expect("UTF-8");
     Ran {
