@@ -33,7 +33,7 @@ use Rattle.argument.proofs.Lists.{list-sound, list-complete, list-ascends}
 use Rattle.defeat.specs.Tests.{kind}
 use Rattle.defeat.specs.OfProgram.{testsOf}
 use Rattle.defeat.specs.Exclusions.{excludedBy, Ready}
-use Rattle.defeat.specs.Steps.{attackedBy, kindAmong}
+use Rattle.defeat.specs.Steps.{attacksBy, attackedBy, kindAmong}
 use Rattle.defeat.proofs.Weighing.{any-same, any-none, among-none, among-same, kind-among}
 
 -- ---- arguments that do not exclude each other
@@ -181,8 +181,8 @@ module _ {p : Program} {u : ℕ} {table closures exclusions arguments : List ℕ
         (sym (strict-apart p (ready .limits) x z l lx lz)
         ∙ and-right (within (maskOf z) (maskOf y)) (excludes (p .rules) (literalOf x) (literalOf z)) q))))
 
-    -- where the two do not meet x is no defeater: with an empty mask it is none, whatever stands in the row
-    pub kind-apart : meets (excludedBy exclusions (literalOf x)) (closureAt closures (maskOf y)) ≡ false
+    -- where by the tables it does not attack, x is no defeater: with an empty mask it is none, whatever stands in the row
+    pub kind-apart : attacksBy exclusions closures x y ≡ false
         → kind (testsOf p preferred) x y ≡ 0
     kind-apart e = go (decLt x 128)
       where

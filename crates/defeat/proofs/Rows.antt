@@ -28,7 +28,7 @@ use Rattle.derivation.proofs.Contradictions.{excludes-sym}
 use Rattle.argument.specs.Argument.{literalOf}
 use Rattle.argument.proofs.Entries.{stored, stored-same, stored-other}
 use Rattle.defeat.specs.Exclusions.{excludedBy, Excluded, Conclusions}
-use Rattle.defeat.specs.Steps.{RowOf, Begun}
+use Rattle.defeat.specs.Steps.{RowOf, Underway}
 
 -- ---- two literals
 
@@ -89,7 +89,7 @@ pub pair-outside : (rules : List Rule) (u a b : ℕ) → has u b ≡ false → f
 pair-outside rules u a b n = sym (ap (λ (t : Bool). t && excludes rules a b) n)
 
 -- the literal b against a, by the row of b
-module _ (rules : List Rule) (u a b other : ℕ) (e : List ℕ) (begun : Begun rules u a e) (row : other ≡ excludedBy e b) where
+module _ (rules : List Rule) (u a b other : ℕ) (e : List ℕ) (underway : Underway rules u a e) (row : other ≡ excludedBy e b) where
   module _ (mine : has u a ≡ true) (its : has u b ≡ true) where
     its-test : (r : Bool) → r ≡ excludes rules a b → r ≡ rowTest rules u a b
     its-test r q = q ∙ sym (ap (λ (t : Bool). t && excludes rules a b) its)
@@ -98,20 +98,20 @@ module _ (rules : List Rule) (u a b other : ℕ) (e : List ℕ) (begun : Begun r
     pub pair-before : b < a → (r : Bool) → r ≡ has other a → r ≡ rowTest rules u a b
     pair-before l r q =
         its-test r
-        (q ∙ ap (λ (s : ℕ). has s a) row ∙ begun .rows b l its a ∙ ap (λ (t : Bool). t && excludes rules b a) mine
+        (q ∙ ap (λ (s : ℕ). has s a) row ∙ underway .rows b l its a ∙ ap (λ (t : Bool). t && excludes rules b a) mine
         ∙ excludes-sym rules b a)
 
     -- it has what b derives
     module _ (l : a ≤ b) where
       its-derived : other ≡ closure (Π rules) (insert 0 b)
-      its-derived = row ∙ begun .derived b l its
+      its-derived = row ∙ underway .derived b l its
 
       pub pair-closed : closure (Π rules) other ≡ other
       pair-closed = rw its-derived (closure-idempotent (Π rules) (insert 0 b))
 
       pub pair-after : (derived : ℕ) → derived ≡ excludedBy e a → (r : Bool) → r ≡ together rules derived other → r ≡ rowTest rules u a b
       pair-after derived q r t =
-          its-test r (t ∙ together-excludes rules derived other a b (q ∙ begun .derived a (le-refl a) mine) its-derived)
+          its-test r (t ∙ together-excludes rules derived other a b (q ∙ underway .derived a (le-refl a) mine) its-derived)
 
 -- ---- one row
 
@@ -175,25 +175,25 @@ module _ (e : List ℕ) (a lo hi : ℕ) (room : 2 * a + 1 < length e) where
       below-more _ a (λ b l h. subst (P b) (sym (stored-other e a lo hi room b (λ q. omega arith))) (rows b l h))
       (λ h. subst (P a) (sym (stored-same e a lo hi room)) row)
 
-  begun-more : (rules : List Rule) (u : ℕ) → Begun rules u a e → RowOf rules u a (joined hi lo) → Begun rules u (a + 1) after
-  begun-more rules u begun row = record {
-    rows = rows-more (RowOf rules u) u (begun .rows) row;
-    derived = λ b l h. stored-other e a lo hi room b (λ q. omega arith) ∙ begun .derived b (omega arith) h;
+  underway-more : (rules : List Rule) (u : ℕ) → Underway rules u a e → RowOf rules u a (joined hi lo) → Underway rules u (a + 1) after
+  underway-more rules u underway row = record {
+    rows = rows-more (RowOf rules u) u (underway .rows) row;
+    derived = λ b l h. stored-other e a lo hi room b (λ q. omega arith) ∙ underway .derived b (omega arith) h;
   }
 
-begun-skip : (rules : List Rule) (u n : ℕ) (e : List ℕ) → has u n ≡ false → Begun rules u n e → Begun rules u (n + 1) e
-begun-skip rules u n e h begun = record {
-  rows = rows-skip (RowOf rules u) u n e h (begun .rows);
-  derived = λ b l. begun .derived b (omega arith);
+underway-skip : (rules : List Rule) (u n : ℕ) (e : List ℕ) → has u n ≡ false → Underway rules u n e → Underway rules u (n + 1) e
+underway-skip rules u n e h underway = record {
+  rows = rows-skip (RowOf rules u) u n e h (underway .rows);
+  derived = λ b l. underway .derived b (omega arith);
 }
 
 -- the row is what the literal alone derives
-abbrev pub Alone : List Rule → ℕ → ℕ → Type 0
-Alone rules a s = s ≡ closure (Π rules) (insert 0 a)
+abbrev pub Single : List Rule → ℕ → ℕ → Type 0
+Single rules a s = s ≡ closure (Π rules) (insert 0 a)
 
 -- what Π derives may be given with it
-alone-from : (rules : List Rule) (d a s : ℕ) → d ≡ closure (Π rules) 0 → s ≡ closure (Π rules) (insert d a) → Alone rules a s
-alone-from rules d a s e q =
+single-from : (rules : List Rule) (d a s : ℕ) → d ≡ closure (Π rules) 0 → s ≡ closure (Π rules) (insert d a) → Single rules a s
+single-from rules d a s e q =
     q ∙ closure-cut (Π rules) one (insert d a) (insert-within 0 a (insert d a) (within-empty (insert d a)) (has-insert-same d a))
     (insert-within d a (closure (Π rules) one)
     (rw e (closure-mono (Π rules) (Π rules) (λ r i. i) 0 one (within-empty one)))
@@ -202,22 +202,22 @@ alone-from rules d a s e q =
     one : ℕ
     one = insert 0 a
 
-begun-none : (rules : List Rule) (u n : ℕ) (e : List ℕ) → u < 2 ^ 128 → 128 ≤ n → RowsTo (Alone rules) u n e → Begun rules u 0 e
-begun-none rules u n e below l rows = record {
+underway-none : (rules : List Rule) (u n : ℕ) (e : List ℕ) → u < 2 ^ 128 → 128 ≤ n → RowsTo (Single rules) u n e → Underway rules u 0 e
+underway-none rules u n e below l rows = record {
   rows = rows-none (RowOf rules u) u e;
   derived = λ a z h. rows a (omega (arith, has-bound u 128 a below h)) h;
 }
 
-begun-all : (rules : List Rule) (u n : ℕ) (e : List ℕ) → u < 2 ^ 128 → 128 ≤ n → Begun rules u n e → Excluded rules u e
-begun-all rules u n e below l begun = record {
+underway-all : (rules : List Rule) (u n : ℕ) (e : List ℕ) → u < 2 ^ 128 → 128 ≤ n → Underway rules u n e → Excluded rules u e
+underway-all rules u n e below l underway = record {
   exact = λ a b h i. row a h b ∙ ap (λ (t : Bool). t && excludes rules a b) i;
   only = λ a b h i. and-left (has u b) (excludes rules a b) (sym (row a h b) ∙ i);
 }
   where
     row : (a : ℕ) → has u a ≡ true → RowOf rules u a (excludedBy e a)
-    row a h = begun .rows a (omega (arith, has-bound u 128 a below h)) h
+    row a h = underway .rows a (omega (arith, has-bound u 128 a below h)) h
 
--- what holds of the exclusion table e, begun as e₀
+-- what holds of the exclusion table e, underway as e₀
 pub record Filling (t e₀ e : List ℕ) (P : Program → List ℕ → Type 0) : Type 0 where
   pub kept : length e ≡ length e₀
   pub rows : length e₀ ≡ 256 → (p : Program) → Holds p t → P p e
@@ -238,50 +238,50 @@ module _ (t : List ℕ) (u : ℕ) (e₀ : List ℕ) where
   module _ (d j : ℕ) where
     -- what each of the first n literals alone derives
     abbrev pub Deriving : List ℕ → ℕ → Type 0
-    Deriving e n = Filling t e₀ e (λ p e. StrictOf (p .rules) d j → RowsTo (Alone (p .rules)) u n e)
+    Deriving e n = Filling t e₀ e (λ p e. StrictOf (p .rules) d j → RowsTo (Single (p .rules)) u n e)
 
     pub deriving-none : Deriving e₀ 0
-    deriving-none = record { kept = refl; rows = λ z p holds strict. rows-none (Alone (p .rules)) u e₀ }
+    deriving-none = record { kept = refl; rows = λ z p holds strict. rows-none (Single (p .rules)) u e₀ }
 
     pub deriving-skip : (e : List ℕ) (n : ℕ) → has u n ≡ false → Deriving e n → Deriving e (n + 1)
-    deriving-skip e n h = filling-map t e₀ _ _ e (λ p rows strict. rows-skip (Alone (p .rules)) u n e h (rows strict))
+    deriving-skip e n h = filling-map t e₀ _ _ e (λ p rows strict. rows-skip (Single (p .rules)) u n e h (rows strict))
 
     pub deriving-more : (e f : List ℕ) (n lo hi one : ℕ) → n < 128 → one ≡ insert d n
         → ((p : Program) → Holds p t → joined hi lo ≡ closure (Π-mask 0 (p .rules)) one)
         → f ≡ set (set e (2 * n) lo) (2 * n + 1) hi → Deriving e n → Deriving f (n + 1)
     deriving-more e f n lo hi one l o closed q =
         filling-store t e₀ _ _ e f n lo hi l q (λ p holds room rows strict.
-        rows-more e n lo hi room (Alone (p .rules)) u (rows strict)
-        (alone-from (p .rules) d n (joined hi lo) (strict .derived-is)
+        rows-more e n lo hi room (Single (p .rules)) u (rows strict)
+        (single-from (p .rules) d n (joined hi lo) (strict .derived-is)
         (closed p holds ∙ ap₂ closure (Π-mask-empty (p .rules)) o)))
 
     pub deriving-all : (e : List ℕ) (n : ℕ) → u < 2 ^ 128 → 128 ≤ n → Deriving e n
-        → length e₀ ≡ 256 → (p : Program) → Holds p t → StrictOf (p .rules) d j → Begun (p .rules) u 0 e
-    deriving-all e n below l w z p holds strict = begun-none (p .rules) u n e below l (w .rows z p holds strict)
+        → length e₀ ≡ 256 → (p : Program) → Holds p t → StrictOf (p .rules) d j → Underway (p .rules) u 0 e
+    deriving-all e n below l w z p holds strict = underway-none (p .rules) u n e below l (w .rows z p holds strict)
 
   -- the rows of the first n literals are done
   abbrev pub Rowing : List ℕ → ℕ → Type 0
-  Rowing e n = Filling t e₀ e (λ p e. Begun (p .rules) u n e)
+  Rowing e n = Filling t e₀ e (λ p e. Underway (p .rules) u n e)
 
   pub rowing-none : (n d j : ℕ) → length e₀ ≡ n → ((p : Program) → Holds p t → StrictOf (p .rules) d j)
-      → (n ≡ 256 → (p : Program) → Holds p t → StrictOf (p .rules) d j → Begun (p .rules) u 0 e₀) → Rowing e₀ 0
+      → (n ≡ 256 → (p : Program) → Holds p t → StrictOf (p .rules) d j → Underway (p .rules) u 0 e₀) → Rowing e₀ 0
   rowing-none n d j k strict w = record { kept = refl; rows = λ z p holds. w (sym k ∙ z) p holds (strict p holds) }
 
   pub rowing-skip : (e : List ℕ) (n : ℕ) → has u n ≡ false → Rowing e n → Rowing e (n + 1)
-  rowing-skip e n h = filling-map t e₀ _ _ e (λ p. begun-skip (p .rules) u n e h)
+  rowing-skip e n h = filling-map t e₀ _ _ e (λ p. underway-skip (p .rules) u n e h)
 
   pub rowing-more : (e f : List ℕ) (n lo hi d j : ℕ) → n < 128 → has u n ≡ true
       → ((p : Program) → Holds p t → StrictOf (p .rules) d j)
-      → ((p : Program) → Holds p t → StrictOf (p .rules) d j → has u n ≡ true → Begun (p .rules) u n e
+      → ((p : Program) → Holds p t → StrictOf (p .rules) d j → has u n ≡ true → Underway (p .rules) u n e
       → RowOf (p .rules) u n (joined hi lo))
       → f ≡ set (set e (2 * n) lo) (2 * n + 1) hi → Rowing e n → Rowing f (n + 1)
   rowing-more e f n lo hi d j l mine strict row q =
-      filling-store t e₀ _ _ e f n lo hi l q (λ p holds room begun.
-      begun-more e n lo hi room (p .rules) u begun (row p holds (strict p holds) mine begun))
+      filling-store t e₀ _ _ e f n lo hi l q (λ p holds room underway.
+      underway-more e n lo hi room (p .rules) u underway (row p holds (strict p holds) mine underway))
 
   pub rowing-all : (e : List ℕ) (n : ℕ) → u < 2 ^ 128 → 128 ≤ n → Rowing e n
       → length e₀ ≡ 256 → (p : Program) → Holds p t → Excluded (p .rules) u e
-  rowing-all e n below l w z p holds = begun-all (p .rules) u n e below l (w .rows z p holds)
+  rowing-all e n below l w z p holds = underway-all (p .rules) u n e below l (w .rows z p holds)
 
 -- ---- the literals that have rows
 

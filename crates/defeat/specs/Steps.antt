@@ -4,10 +4,11 @@ use mathlib.Core.Bool.{Bool, true, not, _&&_}
 use mathlib.Core.List.{List}
 use Prim.Native.Nat.{ℕ, _<_, _≤_}
 use Rattle.lists.specs.Lists.{any}
-use Rattle.literals.specs.Sets.{has, insert, within}
+use Rattle.literals.specs.Sets.{has, insert, within, meets}
 use Rattle.program.specs.Program.{Rule, Π}
 use Rattle.derivation.specs.Closure.{closure, excludes}
 use Rattle.argument.specs.Argument.{maskOf, literalOf}
+use Rattle.argument.specs.Closures.{closureAt}
 use Rattle.defeat.specs.Exclusions.{excludedBy}
 use Rattle.defeat.specs.Tests.{kindOf}
 
@@ -16,9 +17,13 @@ abbrev pub RowOf : List Rule → ℕ → ℕ → ℕ → Type 0
 RowOf rules u a s = (b : ℕ) → has s b ≡ (has u b && excludes rules a b)
 
 -- of the literals of u, those below n have their rows, the others what each alone derives
-pub record Begun (rules : List Rule) (u n : ℕ) (e : List ℕ) : Type 0 where
+pub record Underway (rules : List Rule) (u n : ℕ) (e : List ℕ) : Type 0 where
   pub rows : (a : ℕ) → a < n → has u a ≡ true → RowOf rules u a (excludedBy e a)
   pub derived : (a : ℕ) → n ≤ a → has u a ≡ true → excludedBy e a ≡ closure (Π rules) (insert 0 a)
+
+-- by the two tables the literal of x excludes one that the mask of y derives
+abbrev pub attacksBy : (exclusions closures : List ℕ) (x y : ℕ) → Bool
+attacksBy exclusions closures x y = meets (excludedBy exclusions (literalOf x)) (closureAt closures (maskOf y))
 
 -- z is a sub-argument of one with the mask m, and its literal is in s
 abbrev pub attackedBy : ℕ → ℕ → ℕ → Bool

@@ -1,6 +1,5 @@
 // Whether one argument attacks another, and its kind as a defeater, by the closure table and the exclusion table.
 ghost use mathlib.Core.Path.{_≡_};
-ghost use mathlib.Core.Bool.{false};
 ghost use mathlib.Core.List.{List, List·Memᴰ};
 ghost use Prim.Native.Nat.{ℕ, _+_, _*_, _^_, _<_};
 ghost use lib.ListN.{length, take};
@@ -14,7 +13,7 @@ ghost use Rattle.defeat.specs.Tests.{kind as «kindBy»};
 ghost use Rattle.defeat.specs.OfProgram.{testsOf};
 ghost use Rattle.preference.specs.Preference.{preferredTest};
 ghost use Rattle.defeat.specs.Exclusions.{Numbers, Ready};
-ghost use Rattle.defeat.specs.Steps.{attackedBy, kindAmong};
+ghost use Rattle.defeat.specs.Steps.{attacksBy, attackedBy, kindAmong};
 use crate::exclusions;
 use argument::closures;
 use argument::numbers;
@@ -25,10 +24,7 @@ use program::RuleTable;
 // The literal of x excludes one that the mask of y derives. Where it does not, no sub-argument of y is attacked.
 pub fn attacks(closures: &[u64], exclusions: &[u64; 256], x: u32, y: u32) -> bool
     requires { ⌜ (y < 2 ^ 23) × (2 * maskOf y + 1 < length (now closures)) ⌝ }
-    ensures { λ r. ⌜ ((p : Program) (u count : ℕ) (table arguments : List ℕ)
-        → Ready p u table (now (closures .entry)) (now (exclusions .entry)) arguments count
-        → List·Memᴰ x (argumentList (p .rules)) → List·Memᴰ y (argumentList (p .rules))
-        → r ≡ false → kindBy (testsOf p (preferredTest p)) x y ≡ 0) ⌝ }
+    ensures { λ r. ⌜ r ≡ attacksBy (now (exclusions .entry)) (now (closures .entry)) x y ⌝ }
 {
     let excluded = exclusions::entry(exclusions, numbers::literal_of(x));
     excluded.meets(closures::entry(closures, numbers::mask_of(y)))

@@ -10,7 +10,7 @@ ghost use Rattle.program.specs.Table.{Holds, Shaped};
 ghost use Rattle.derivation.specs.Closure.{closure, excludes};
 ghost use Rattle.derivation.specs.Parts.{RulesOf, StrictOf};
 ghost use Rattle.defeat.specs.Exclusions.{excludedBy, Excluded, Conclusions};
-ghost use Rattle.defeat.specs.Steps.{RowOf, Begun};
+ghost use Rattle.defeat.specs.Steps.{RowOf, Underway};
 use argument::numbers;
 use derivation::Strict;
 use literals::LiteralSet;
@@ -70,7 +70,7 @@ fn derive_each(table: &RuleTable, strict: Strict, u: LiteralSet, exclusions: &mu
     ensures { λ _. ⌜ length (now (exclusions .exit)) ≡ length (now (exclusions .entry)) ⌝ }
     ensures { λ _. ⌜ (length (now (exclusions .entry)) ≡ 256 → (p : Program) → Holds p (now (table .entry))
         → StrictOf (p .rules) (setOf (strict .derived)) (setOf (strict .joint))
-        → Begun (p .rules) (setOf u) 0 (now (exclusions .exit))) ⌝ }
+        → Underway (p .rules) (setOf u) 0 (now (exclusions .exit))) ⌝ }
 {
     let mut a: u64 = 0;
     while a < 128 {
@@ -97,7 +97,7 @@ fn row(
     requires { ⌜ a < 128 ⌝ }
     ensures { λ r. ⌜ ((p : Program) → Holds p (now (table .entry))
         → StrictOf (p .rules) (setOf (strict .derived)) (setOf (strict .joint)) → has (setOf u) a ≡ true
-        → Begun (p .rules) (setOf u) a (now (exclusions .entry)) → RowOf (p .rules) (setOf u) a (setOf r)) ⌝ }
+        → Underway (p .rules) (setOf u) a (now (exclusions .entry)) → RowOf (p .rules) (setOf u) a (setOf r)) ⌝ }
 {
     let derived = entry(exclusions, a);
     let mut found = LiteralSet::empty();
@@ -128,7 +128,7 @@ fn excluded(
     requires { ⌜ (a < 128) × (b < 128) ⌝ }
     ensures { λ r. ⌜ ((p : Program) → Holds p (now (table .entry))
         → StrictOf (p .rules) (setOf (strict .derived)) (setOf (strict .joint)) → has (setOf u) a ≡ true
-        → Begun (p .rules) (setOf u) a (now (exclusions .entry)) → setOf derived ≡ excludedBy (now (exclusions .entry)) a
+        → Underway (p .rules) (setOf u) a (now (exclusions .entry)) → setOf derived ≡ excludedBy (now (exclusions .entry)) a
         → r ≡ (has (setOf u) b && excludes (p .rules) a b)) ⌝ }
 {
     if !u.has(b) {

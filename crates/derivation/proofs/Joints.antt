@@ -22,7 +22,7 @@ use Rattle.program.specs.Program.{Kind, strict, defeasible, Rule, Program, isDe
 use Rattle.program.specs.Table.{headAt, bodyAt, needAt, needOf, ruleCount, Row, Holds}
 use Rattle.derivation.specs.Closure.{closure}
 use Rattle.derivation.specs.Steps.{joinsAt, addsAt}
-use Rattle.derivation.specs.Parts.{RulesOf, Alone, Solo, StrictOf, Parted}
+use Rattle.derivation.specs.Parts.{RulesOf, Unjoined, Solo, StrictOf, Parted}
 use Rattle.derivation.proofs.Choices.{Π-mask-empty}
 use Rattle.derivation.proofs.Parts.{solo-few, settle-rest, settle-done}
 
@@ -78,10 +78,10 @@ pub sifted-all : (t : List ℕ) (d i j : ℕ) → Sifted t d i j → ruleCount t
 sifted-all t d i j sifted all closed p holds =
     record {
       derived-is = closed p holds ∙ ap (λ (l : List Rule). closure l 0) (Π-mask-empty (p .rules));
-      alone = λ k a. rule k a (holds .row k (a .there));
+      unjoined = λ k a. rule k a (holds .row k (a .there));
     }
   where
-    rule : (k : ℕ) (a : Alone (p .rules) j k) → Row (ruleAt (p .rules) k) (bitOf (p .rules) k) t k
+    rule : (k : ℕ) (a : Unjoined (p .rules) j k) → Row (ruleAt (p .rules) k) (bitOf (p .rules) k) t k
         → Solo (insertAll 0 (ruleAt (p .rules) k .body)) ⊎ (has d (ruleAt (p .rules) k .head) ≡ true)
     rule k a row =
         ⊎-elim

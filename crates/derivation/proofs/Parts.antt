@@ -18,7 +18,7 @@ use Rattle.literals.proofs.Within.{within-each, each-within, within-antisym, wi
 use Rattle.literals.proofs.Within.{within-union-right, union-within, ones-more}
 use Rattle.program.specs.Program.{Rule, isDefeasible, ruleAt, Π}
 use Rattle.derivation.specs.Closure.{closure}
-use Rattle.derivation.specs.Parts.{Alone, Solo, StrictOf, Parted}
+use Rattle.derivation.specs.Parts.{Unjoined, Solo, StrictOf, Parted}
 use Rattle.derivation.proofs.Rounds.{Closed}
 use Rattle.derivation.proofs.Closures.{closure-contains, closure-closed, closure-least, closure-mono, closure-cut}
 use Rattle.derivation.proofs.Choices.{Π-has, Π-strict, Π-with-rules}
@@ -64,22 +64,22 @@ module _ (rules : List Rule) where
       (Π-with-rules rules (λ _. false) r i) (Π-strict rules r i) (each-hasAll s (r .body) f)
 
   pub parted-closed : (j s : ℕ) → Closed (Π rules) s → Parted rules j s
-  parted-closed j s closed i alone e = inl (closed-head s i closed (alone .there) (alone .strictly) e)
+  parted-closed j s closed i unjoined e = inl (closed-head s i closed (unjoined .there) (unjoined .strictly) e)
 
   -- a rule with its body in no set is a fact
   pub parted-none : (j : ℕ) → Parted rules j 0
-  parted-none j i alone e =
-      inr (closed-head own i (closure-closed (Π rules) 0) (alone .there) (alone .strictly)
+  parted-none j i unjoined e =
+      inr (closed-head own i (closure-closed (Π rules) 0) (unjoined .there) (unjoined .strictly)
       (each-hasAll own (ruleAt rules i .body) (λ k d.
       within-each 0 own (within-empty own) k (hasAll-each 0 (ruleAt rules i .body) e k d))))
 
   module _ (d j : ℕ) (strict : StrictOf rules d j) where
     -- a rule with its body in a union has it in one of the sets, or its head is derived
-    split : (x y i : ℕ) → Alone rules j i → hasAll (union x y) (ruleAt rules i .body) ≡ true
+    split : (x y i : ℕ) → Unjoined rules j i → hasAll (union x y) (ruleAt rules i .body) ≡ true
         → ((hasAll x (ruleAt rules i .body) ≡ true) ⊎ (hasAll y (ruleAt rules i .body) ≡ true)) ⊎ (has own (ruleAt rules i .head) ≡ true)
-    split x y i alone e =
+    split x y i unjoined e =
         ⊎-elim (λ solo. inl (back (solo x y (sym (hasAll-within (union x y) body) ∙ e))))
-        (λ h. inr (ap (λ (v : ℕ). has v (ruleAt rules i .head)) (sym (strict .derived-is)) ∙ h)) (strict .alone i alone)
+        (λ h. inr (ap (λ (v : ℕ). has v (ruleAt rules i .head)) (sym (strict .derived-is)) ∙ h)) (strict .unjoined i unjoined)
       where
         body : List ℕ
         body = ruleAt rules i .body
@@ -90,7 +90,7 @@ module _ (rules : List Rule) where
         back (inr w) = inr (hasAll-within y body ∙ w)
 
     pub parted-union : (x y : ℕ) → Parted rules j x → Parted rules j y → Parted rules j (union x y)
-    parted-union x y p q i alone e = ⊎-elim (λ o. ⊎-elim (λ w. left (p i alone w)) (λ w. right (q i alone w)) o) inr (split x y i alone e)
+    parted-union x y p q i unjoined e = ⊎-elim (λ o. ⊎-elim (λ w. left (p i unjoined w)) (λ w. right (q i unjoined w)) o) inr (split x y i unjoined e)
       where
         h : ℕ
         h = ruleAt rules i .head
@@ -133,16 +133,16 @@ module _ (rules : List Rule) where
               within-each d more (within-union-right s d) (ruleAt rules i .head)
               (ap (λ (v : ℕ). has v (ruleAt rules i .head)) (strict .derived-is) ∙ g)
 
-          apart : (i : ℕ) → Alone rules j i → hasAll more (ruleAt rules i .body) ≡ true → has more (ruleAt rules i .head) ≡ true
-          apart i alone e =
+          apart : (i : ℕ) → Unjoined rules j i → hasAll more (ruleAt rules i .body) ≡ true → has more (ruleAt rules i .head) ≡ true
+          apart i unjoined e =
               ⊎-elim
               (λ o.
               ⊎-elim
               (λ w.
-              ⊎-elim (within-each s more (within-union-left s d) (ruleAt rules i .head)) (by-own i) (parted i alone w))
+              ⊎-elim (within-each s more (within-union-left s d) (ruleAt rules i .head)) (by-own i) (parted i unjoined w))
               (λ w.
               by-own i
-              (closed-head own i (closure-closed (Π rules) 0) (alone .there) (alone .strictly)
+              (closed-head own i (closure-closed (Π rules) 0) (unjoined .there) (unjoined .strictly)
               (ap (λ (v : ℕ). hasAll v (ruleAt rules i .body)) (sym (strict .derived-is)) ∙ w)))
               o)
-              (by-own i) (split s d i alone e)
+              (by-own i) (split s d i unjoined e)

@@ -16,7 +16,7 @@ abbrev pub RulesOf : List ℕ → ℕ → Type 0
 RulesOf t j = (i : ℕ) → has j i ≡ true → i < ruleCount t
 
 -- a strict rule that is not in j
-pub record Alone (rules : List Rule) (j i : ℕ) : Type 0 where
+pub record Unjoined (rules : List Rule) (j i : ℕ) : Type 0 where
   pub there : i < length rules
   pub strictly : isDefeasible (ruleAt rules i .kind) ≡ false
   pub apart : has j i ≡ false
@@ -28,9 +28,9 @@ Solo w = (x y : ℕ) → within w (union x y) ≡ true → (within w x ≡ true)
 -- d is what Π derives, and j has each strict rule whose body may be spread over two sets and whose head is not in d
 pub record StrictOf (rules : List Rule) (d j : ℕ) : Type 0 where
   pub derived-is : d ≡ closure (Π rules) 0
-  pub alone : (i : ℕ) → Alone rules j i → Solo (insertAll 0 (ruleAt rules i .body)) ⊎ (has d (ruleAt rules i .head) ≡ true)
+  pub unjoined : (i : ℕ) → Unjoined rules j i → Solo (insertAll 0 (ruleAt rules i .body)) ⊎ (has d (ruleAt rules i .head) ≡ true)
 
 -- to s and what Π derives no strict rule adds by its body in s, but for those in j
 abbrev pub Parted : List Rule → ℕ → ℕ → Type 0
-Parted rules j s = (i : ℕ) → Alone rules j i → hasAll s (ruleAt rules i .body) ≡ true
+Parted rules j s = (i : ℕ) → Unjoined rules j i → hasAll s (ruleAt rules i .body) ≡ true
     → (has s (ruleAt rules i .head) ≡ true) ⊎ (has (closure (Π rules) 0) (ruleAt rules i .head) ≡ true)

@@ -15,6 +15,8 @@ use Rattle.defeat.specs.Tests.{kind}
 use Rattle.preference.specs.Preference.{preferredTest}
 use Rattle.defeat.specs.OfProgram.{testsOf}
 use Rattle.defeat.specs.Exclusions.{Numbers}
+use Rattle.defeat.specs.Steps.{attacksBy}
+use Rattle.defeat.proofs.Attacks.{kind-apart}
 use Rattle.tree.specs.Reply.{theirs, permit, replyKind, lastKind}
 use Rattle.tree.specs.Steps.{lineOf, masksOf, Prepared, testsIn, Asked}
 use Rattle.tree.proofs.Line.{sides-within}
@@ -85,11 +87,11 @@ module _ {table closures exclusions arguments : List ℕ} {count : ℕ} {line : 
     abbrev all : List ℕ
     all = argumentList (w .program .rules)
 
-    pub asking-apart : (List·Memᴰ x all → List·Memᴰ y all → kind (testsIn w) x y ≡ 0)
-        → 0 ≡ replyKind (testsIn w) (lineOf line depth) x
-    asking-apart none =
+    pub asking-apart : attacksBy exclusions closures x y ≡ false → 0 ≡ replyKind (testsIn w) (lineOf line depth) x
+    asking-apart e =
         rw line-is
-        (sym (reply-apart (testsIn w) y x l (none (rw (w .made .listed) at x-in) (rw (w .made .listed) at y-in))))
+        (sym (reply-apart (testsIn w) y x l
+        (kind-apart (w .made) x y (rw (w .made .listed) at x-in) (rw (w .made .listed) at y-in) (preferredTest (w .program)) e)))
 
     concordant-is : testsIn w .concordant (x ∷ theirs (y ∷ l)) ≡ not (clash (closureAt closures (union side (maskOf x))))
     concordant-is =

@@ -1,11 +1,9 @@
 -- `defeaters::attacks` meets its contract: the two entries are the row of x's literal and what y's mask derives.
 -- Assumes nothing.
-use mathlib.Core.Path.{sym, ap, ap₂, _∙_}
+use mathlib.Core.Path.{ap, ap₂, _∙_}
 use Rattle.literals.specs.Sets.{meets}
 use Rattle.argument.specs.Closures.{closureAt}
-use Rattle.preference.specs.Preference.{preferredTest}
 use Rattle.defeat.specs.Exclusions.{excludedBy}
-use Rattle.defeat.proofs.Attacks.{kind-apart}
 use borrow.Author.Needs.{needs}
 use Rattle.defeat.proofs.defeaters.attacks.Statement.{statement}
 use Rattle.defeat.proofs.defeaters.attacks.Tie as tie
@@ -26,12 +24,11 @@ meets-requires : tie.Need-meets-requires
 meets-requires c κs = search needs
 
 returns : tie.Need-returns
-returns c p u count table arguments ready lx ly unmet =
+returns c =
     let e = c .before .before .before in
     let a = e .before .before .before .args in
-    let row = e .entry .ensures ∙ ap (excludedBy (a .exclusions .now)) (e .before .literal-of .ensures .0) in
-    let derived = c .before .entry2 .ensures ∙ ap (closureAt (a .closures .now)) (c .before .before .mask-of .ensures) in
-    kind-apart ready _ _ lx ly (preferredTest p) (sym (ap₂ meets row derived) ∙ sym (c .meets .ensures) ∙ unmet)
+    c .meets .ensures ∙ ap₂ meets (e .entry .ensures ∙ ap (excludedBy (a .exclusions .now)) (e .before .literal-of .ensures .0))
+    (c .before .entry2 .ensures ∙ ap (closureAt (a .closures .now)) (c .before .before .mask-of .ensures))
 
 pub attacks-spec : {M : Type 1} → statement M
 attacks-spec =

@@ -9,7 +9,7 @@ use Rattle.literals.proofs.Words.{joined-below}
 use Rattle.program.specs.Program.{Program}
 use Rattle.program.specs.Table.{Holds}
 use Rattle.derivation.specs.Parts.{StrictOf}
-use Rattle.defeat.specs.Steps.{Begun}
+use Rattle.defeat.specs.Steps.{Underway}
 use Rattle.defeat.proofs.Rows.{Upto, upto-none, upto-skip, upto-more, rowTest, row-all}
 use borrow.Author.Needs.{needs}
 use Rattle.defeat.proofs.exclusions.row.Statement.{statement}
@@ -17,7 +17,7 @@ use Rattle.defeat.proofs.exclusions.row.Tie as tie
 
 abbrev Inv-loop : tie.InvT-loop
 Inv-loop table strict u exclusions a derived found₀ b₀ found b =
-    (p : Program) → Holds p table → StrictOf (p .rules) (setOf (strict .derived)) (setOf (strict .joint)) → has (setOf u) a ≡ true → Begun (p .rules) (setOf u) a exclusions
+    (p : Program) → Holds p table → StrictOf (p .rules) (setOf (strict .derived)) (setOf (strict .joint)) → has (setOf u) a ≡ true → Underway (p .rules) (setOf u) a exclusions
     → Upto (rowTest (p .rules) (setOf u) a) b (setOf found)
 
 abbrev μ-loop : tie.MeasureT-loop

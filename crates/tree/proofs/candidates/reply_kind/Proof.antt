@@ -1,4 +1,5 @@
 -- The tests in turn: of attack, of the candidate's side, of the line, of defeat, of the rule on blocking defeaters.
+use mathlib.Core.Path.{sym, _∙_}
 use borrow.Author.Tests.{not-true}
 use Rattle.tree.proofs.Asking.{asking-entry, asking-numbers, asking-x, asking-y, asking-apart, asking-discordant, asking-used, asking-free}
 use native.Mathlib.Omega.{arith}
@@ -31,10 +32,7 @@ attacks-requires c κs =
 returns : tie.Need-returns
 returns c =
     let s = c .before .before .before .before .before .before .before in
-    let a = s .args in
-    λ w. asking-apart (s .pre .0) (a .j) (s .pre .1) w (λ lx ly.
-    c .before .attacks .ensures (w .program) (w .conclusions) (a .count) (a .table .now) (a .arguments .now) (w .made) lx ly
-    (not-true _ (c .if1 .taken)))
+    λ w. asking-apart (s .pre .0) (s .args .j) (s .pre .1) w (sym (c .before .attacks .ensures) ∙ not-true _ (c .if1 .taken))
 
 mask-of-requires : tie.Need-mask-of-requires
 mask-of-requires c κs = search needs
