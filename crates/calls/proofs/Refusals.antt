@@ -1,13 +1,14 @@
 -- A call is turned away by listed causes only, and what an accepted one is known to fit. Assumes nothing.
 use mathlib.Core.Path.{_≡_, refl}
 use mathlib.Core.Bool.{Bool, true, false, _&&_, _||_}
-use mathlib.Core.List.{List}
+use mathlib.Core.List.{List, [], _∷_}
 use mathlib.Core.Logic.{_⊎_}
 use Prim.Native.Nat.{ℕ, zero, suc, _≤_, _<_}
 use native.Mathlib.Omega.{arith}
 use lib.ListN.{length}
 use lib.Dec.{T, eqb, ltb, leb, leb→le, le→leb, nltb→le, nleb→lt}
 use Rattle.lists.specs.Decides.{Decides}
+use Rattle.lists.specs.Lists.{filter, upto}
 use Rattle.lists.proofs.Lists.{or-left}
 use Rattle.lists.proofs.Decides.{decides-and, decides-or}
 use Rattle.program.specs.Program.{Π}
@@ -35,6 +36,15 @@ listCause n = imageCause n || eqb n 23
 -- all of document 01's table: 1 to 14, and 20 to 23
 abbrev pub isCause : ℕ → Bool
 isCause n = imageCause n || (leb 20 n && leb n 23)
+
+-- the numbers of the table, and those that the list call can give, by evaluation
+pub causes-are : filter isCause (upto 0 100)
+    ≡ 1 ∷ 2 ∷ 3 ∷ 4 ∷ 5 ∷ 6 ∷ 7 ∷ 8 ∷ 9 ∷ 10 ∷ 11 ∷ 12 ∷ 13 ∷ 14 ∷ 20 ∷ 21 ∷ 22 ∷ 23 ∷ []
+causes-are = refl
+
+pub list-causes-are : filter listCause (upto 0 100)
+    ≡ 1 ∷ 2 ∷ 3 ∷ 4 ∷ 5 ∷ 6 ∷ 7 ∷ 8 ∷ 9 ∷ 10 ∷ 11 ∷ 12 ∷ 13 ∷ 14 ∷ 23 ∷ []
+list-causes-are = refl
 
 most-renders : (m n : ℕ) → Decides (leb m n) (m ≤ n)
 most-renders m n = record { says = leb→le m n; passes = le→leb m n }
