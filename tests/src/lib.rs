@@ -4,7 +4,7 @@
 pub mod fittings;
 pub mod generator;
 pub mod header;
-#[cfg(probe)]
-pub mod native;
+#[cfg(feature = "library")]
+mod nodes;
 pub mod reference;
 pub mod vectors;

@@ -4,9 +4,9 @@
 //! The product of literals, budgets and lengths is too large, so a program with many defeasible
 //! rules, which every call reads anew, is asked about fewer literals; each with all its budgets.
 
+use foqtirel_binding as library;
 use foqtirel_tests::generator::accepted::{contested_programs, small_programs};
 use foqtirel_tests::generator::{accepted, damaged, Case, Random};
-use foqtirel_tests::native;
 use foqtirel_tests::reference::tree::{Forest, NodeEntry};
 use foqtirel_tests::reference::{
     host_number, Analysis, Answer, Argument, Literal, Refusal, MOST_NODES,
@@ -288,7 +288,7 @@ impl<'a> Asked<'a> {
             wanted_arguments.table(),
             wanted_nodes.table(),
         );
-        let given = native::query(
+        let given = library::trees(
             self.image,
             subject.literal,
             room.budget,
@@ -325,7 +325,7 @@ impl<'a> Asked<'a> {
         let mut arguments = vec![0; MOST_NODES];
         let mut nodes = vec![NodeEntry::default(); MOST_NODES];
         let wanted = self.wanted(subject, budget, &mut arguments, &mut nodes);
-        let given = native::host_query(self.image, subject.literal, budget);
+        let given = library::query(self.image, subject.literal, budget);
         if given == host_number(wanted) {
             report.host_agreed(wanted);
             return given;
