@@ -38,7 +38,7 @@ fn answers(image: &[u8], count: u32) {
     let literals = twice(image[0]);
     let mut literal: u32 = 0;
     while literal < literals {
-        line(literal, host::foqtirel_query(image, literal, 4096));
+        line(literal, foqtirel::foqtirel_query(image, literal, 4096));
         literal += 1;
     }
 }

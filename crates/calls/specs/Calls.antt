@@ -113,16 +113,40 @@ packed (Refused number place) = number
 unfoldable pub hostCall : List ℕ → (literal budget : ℕ) → ℕ
 hostCall s h budget = packed (queried s h budget 4096 4096)
 
--- ---- the export of the query for tests and benchmarks
+-- ---- the calls of the C library: each result is one number
 
--- code * 2^16 + nodes, or number * 2^32 + place
+-- a cause with its place: number * 2^32 + place
+abbrev pub refusalNumber : (number place : ℕ) → ℕ
+refusalNumber number place = number * 0x1_0000_0000 + place
+
+-- 0 where an image is accepted
+abbrev pub verdictNumber : Verdict → ℕ
+verdictNumber verdicts.Accepted = 0
+verdictNumber (verdicts.Refused number place) = refusalNumber number place
+
+abbrev pub checkCall : List ℕ → ℕ
+checkCall s = verdictNumber (checkImage s)
+
+-- the argument count
+abbrev pub listedNumber : Listed → ℕ
+listedNumber (lists.Count n) = n
+listedNumber (lists.Refused number place) = refusalNumber number place
+
+abbrev pub listCall : List ℕ → (room : ℕ) → ℕ
+listCall s room = listedNumber (listed s room)
+
+-- code * 2^16 + nodes
 abbrev pub answeredNumber : Answer → ℕ
 answeredNumber (Yes n) = codeAndNodes (Yes n)
 answeredNumber (No n) = codeAndNodes (No n)
 answeredNumber (Undecided n) = codeAndNodes (Undecided n)
 answeredNumber Unknown = codeAndNodes Unknown
 answeredNumber (Unfinished n) = codeAndNodes (Unfinished n)
-answeredNumber (Refused number place) = number * 0x1_0000_0000 + place
+answeredNumber (Refused number place) = refusalNumber number place
+
+-- the query with lent tables
+abbrev pub treesCall : List ℕ → (literal budget argumentRoom nodeRoom : ℕ) → ℕ
+treesCall s h budget argumentRoom nodeRoom = answeredNumber (queried s h budget argumentRoom nodeRoom)
 
 -- ---- the calls that give a literal's answer
 
@@ -131,15 +155,15 @@ answeredNumber (Refused number place) = number * 0x1_0000_0000 + place
 pub data Call : Type 0 where
   query : (literal budget argumentRoom nodeRoom : ℕ) → Call
   host : (literal budget : ℕ) → Call
-  probe : (literal budget argumentRoom nodeRoom : ℕ) → Call
+  trees : (literal budget argumentRoom nodeRoom : ℕ) → Call
 
 abbrev pub literalAsked : Call → ℕ
 literalAsked (query h budget argumentRoom nodeRoom) = h
 literalAsked (host h budget) = h
-literalAsked (probe h budget argumentRoom nodeRoom) = h
+literalAsked (trees h budget argumentRoom nodeRoom) = h
 
 -- the call says YES to its literal
 abbrev pub SaysYes : List ℕ → Call → Type 0
 SaysYes s (query h budget argumentRoom nodeRoom) = codeOf (queried s h budget argumentRoom nodeRoom) ≡ 1
 SaysYes s (host h budget) = hostCall s h budget / 65536 ≡ 1
-SaysYes s (probe h budget argumentRoom nodeRoom) = answeredNumber (queried s h budget argumentRoom nodeRoom) / 65536 ≡ 1
+SaysYes s (trees h budget argumentRoom nodeRoom) = treesCall s h budget argumentRoom nodeRoom / 65536 ≡ 1

@@ -10,7 +10,7 @@ use Rattle.literals.proofs.Tests.{not-true-false}
 use Rattle.layout.specs.Reading.{programIn}
 use Rattle.defeat.specs.OfProgram.{Exclude}
 use Rattle.answer.specs.Answer.{codeOf}
-use Rattle.calls.specs.Calls.{queried, hostCall, answeredNumber, Call, query, host, probe, literalAsked, SaysYes}
+use Rattle.calls.specs.Calls.{queried, hostCall, treesCall, Call, query, host, trees, literalAsked, SaysYes}
 use Rattle.warrant.proofs.Claims.{demand-3}
 use Rattle.exclusion.specs.Exclusion.{callOf, saysYes, TwoCalls}
 
@@ -23,7 +23,7 @@ equal m n = record {
 says-yes : (s : List ℕ) (c : Call) → Decides (saysYes s c) (SaysYes s c)
 says-yes s (query h budget al nl) = equal (codeOf (queried s h budget al nl)) 1
 says-yes s (host h budget) = equal (hostCall s h budget / 65536) 1
-says-yes s (probe h budget al nl) = equal (answeredNumber (queried s h budget al nl) / 65536) 1
+says-yes s (trees h budget al nl) = equal (treesCall s h budget al nl / 65536) 1
 
 pub literal-asked : (foreign : Bool) (h b al nl : ℕ) → literalAsked (callOf foreign h b al nl) ≡ h
 literal-asked true h b al nl = refl

@@ -8,7 +8,7 @@ use Rattle.lists.specs.Decides.{Decides}
 use Rattle.layout.specs.Reading.{programIn}
 use Rattle.defeat.specs.OfProgram.{Exclude}
 use Rattle.answer.specs.Answer.{codeOf}
-use Rattle.calls.specs.Calls.{queried, hostCall, answeredNumber, Call, query, host, probe, SaysYes}
+use Rattle.calls.specs.Calls.{queried, hostCall, treesCall, Call, query, host, trees, SaysYes}
 
 -- "any call that gives a literal's answer, as these two do": the call from C, or the query with tables of these lengths
 abbrev pub callOf : Bool → (literal budget argumentRoom nodeRoom : ℕ) → Call
@@ -19,8 +19,8 @@ callOf false h budget argumentRoom nodeRoom = query h budget argumentRoom nodeRo
 abbrev pub saysYes : List ℕ → Call → Bool
 saysYes s (query h budget argumentRoom nodeRoom) = eqb (codeOf (queried s h budget argumentRoom nodeRoom)) 1
 saysYes s (host h budget) = eqb (hostCall s h budget / 65536) 1
-saysYes s (probe h budget argumentRoom nodeRoom) =
-    eqb (answeredNumber (queried s h budget argumentRoom nodeRoom) / 65536) 1
+saysYes s (trees h budget argumentRoom nodeRoom) =
+    eqb (treesCall s h budget argumentRoom nodeRoom / 65536) 1
 
 -- what is returned of two calls on one image, which ask for h and k
 pub record TwoCalls (image : List ℕ) (h k : ℕ) (c d : Call) (r : Bool) : Type 0 where

@@ -30,7 +30,7 @@ fn is_yes(answer: Answer) -> bool
 fn by_host(image: &[u8], literal: u32, budget: u32) -> bool
     ensures { λ r. ⌜ r ≡ saysYes (now (image .entry)) (callOf true literal budget 0 0) ⌝ }
 {
-    host::foqtirel_query(image, literal, budget) / 0x1_0000 == 1
+    foqtirel::foqtirel_query(image, literal, budget) / 0x1_0000 == 1
 }
 
 // Whether the query with the lent tables says YES.

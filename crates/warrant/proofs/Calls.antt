@@ -82,14 +82,14 @@ packed-below Unknown h = omega arith
 packed-below (Unfinished n) h = omega arith
 packed-below (Refused n place) h = let k = h .1 in omega arith
 
--- the export's upper part is 1 exactly where the answer is YES
-probed-yes : (a : Answer) → Small a → (answeredNumber a / 65536 ≡ 1) ↔ (codeOf a ≡ 1)
-probed-yes (Yes n) h = let q = packed-code (Yes n) h in (λ e. refl, λ e. q)
-probed-yes (No n) h = let q = packed-code (No n) h in (λ e. sym q ∙ e, λ e. q ∙ e)
-probed-yes (Undecided n) h = let q = packed-code (Undecided n) h in (λ e. sym q ∙ e, λ e. q ∙ e)
-probed-yes Unknown h = let q = packed-code Unknown h in (λ e. sym q ∙ e, λ e. q ∙ e)
-probed-yes (Unfinished n) h = let q = packed-code (Unfinished n) h in (λ e. sym q ∙ e, λ e. q ∙ e)
-probed-yes (Refused n place) h = let l = h .0 in (λ e. absurd (omega arith), λ e. absurd (omega (arith, e)))
+-- the 64-bit number's upper part is 1 exactly where the answer is YES
+answered-yes : (a : Answer) → Small a → (answeredNumber a / 65536 ≡ 1) ↔ (codeOf a ≡ 1)
+answered-yes (Yes n) h = let q = packed-code (Yes n) h in (λ e. refl, λ e. q)
+answered-yes (No n) h = let q = packed-code (No n) h in (λ e. sym q ∙ e, λ e. q ∙ e)
+answered-yes (Undecided n) h = let q = packed-code (Undecided n) h in (λ e. sym q ∙ e, λ e. q ∙ e)
+answered-yes Unknown h = let q = packed-code Unknown h in (λ e. sym q ∙ e, λ e. q ∙ e)
+answered-yes (Unfinished n) h = let q = packed-code (Unfinished n) h in (λ e. sym q ∙ e, λ e. q ∙ e)
+answered-yes (Refused n place) h = let l = h .0 in (λ e. absurd (omega arith), λ e. absurd (omega (arith, e)))
 
 answered-small : {v : Verdict} (a : Answer) → ByCause isCause v → (v ≡ verdicts.Accepted → Small a) → Small (answeredBy v a)
 answered-small a accepted f = f refl
@@ -111,9 +111,9 @@ module _ (s : List ℕ) (h b : ℕ) where
   pub query-packs : (al nl : ℕ) → packed (queried s h b al nl) < 0x1_0000_0000
   query-packs al nl = packed-below (queried s h b al nl) (query-small al nl)
 
-  pub probe-yes : (al nl : ℕ)
+  pub trees-yes : (al nl : ℕ)
       → (answeredNumber (queried s h b al nl) / 65536 ≡ 1) ↔ (codeOf (queried s h b al nl) ≡ 1)
-  probe-yes al nl = probed-yes (queried s h b al nl) (query-small al nl)
+  trees-yes al nl = answered-yes (queried s h b al nl) (query-small al nl)
 
   -- the upper half is the answer's code, and 0 where a cause applies; the lower half is then its number of nodes
   pub host-code : hostCall s h b / 65536 ≡ codeOf (queried s h b 4096 4096)

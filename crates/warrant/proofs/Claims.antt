@@ -21,7 +21,7 @@ use Rattle.preference.specs.Preference.{Preferred, preferredTest}
 use Rattle.defeat.specs.OfProgram.{Exclude}
 use Rattle.preference.proofs.Preferences.{preferred-renders}
 use Rattle.answer.specs.Answer.{tests, answer, codeOf}
-use Rattle.calls.specs.Calls.{checkImage, queryVerdict, answeredBy, queried, Call, query, host, probe, literalAsked}
+use Rattle.calls.specs.Calls.{checkImage, queryVerdict, answeredBy, queried, Call, query, host, trees, literalAsked}
 use Rattle.calls.specs.Calls.{SaysYes}
 use Rattle.warrant.specs.Claims.{Answers, Grants, Demand-3}
 use Rattle.answer.proofs.Forests.{forest-published, entries-published}
@@ -30,7 +30,7 @@ use Rattle.answer.proofs.Answers.{entries-count, answer-unknown, answer-unfinis
 use Rattle.answer.proofs.Answers.{answer-nodes-unfinished, answer-nodes-unknown}
 use Rattle.answer.proofs.Answers.{answer-yes, answer-no, answer-undecided}
 use Rattle.calls.proofs.Refusals.{check-accepted, check-passes, query-accepted}
-use Rattle.warrant.proofs.Calls.{answered-code, host-code, probe-yes}
+use Rattle.warrant.proofs.Calls.{answered-code, host-code, trees-yes}
 
 -- a program within the limits has heads below 128
 pub limits-heads : {p : Program} → Limits p → HeadsBelow 128 (p .rules)
@@ -102,8 +102,8 @@ module _ (s : List ℕ) where
             record { accepted = g .accepted; within-budget = g .within-budget; warranted = g .warranted },
         λ g. code ∙ q .1 (record { accepted = g .accepted; within-budget = g .within-budget; warranted = g .warranted }),
       )
-  grants (probe h b al nl) =
-      let yes = probe-yes s h b al nl in
+  grants (trees h b al nl) =
+      let yes = trees-yes s h b al nl in
       let q = query-grants h b al nl in (
         λ e. let g = q .0 (yes .0 e) in
             record { accepted = g .accepted; within-budget = g .within-budget; warranted = g .warranted },

@@ -17,7 +17,7 @@ use Rattle.tree.specs.Entries.{Entry}
 use Rattle.tree.specs.Published.{ForestFor, EntriesFor}
 use Rattle.answer.specs.Warrant.{WarrantedBy, Warranted}
 use Rattle.answer.specs.Answer.{Occurs, forest, nodeCount, forestEntries, tests, answer, codeOf, nodesOf}
-use Rattle.calls.specs.Calls.{queryVerdict, Call, query, host, probe, literalAsked, SaysYes}
+use Rattle.calls.specs.Calls.{queryVerdict, Call, query, host, trees, literalAsked, SaysYes}
 
 -- ---- the answers
 
@@ -47,13 +47,13 @@ pub record Answers (p : Program) (h budget : ℕ) : Type 0 where
 abbrev pub budgetOf : Call → ℕ
 budgetOf (query h budget argumentRoom nodeRoom) = budget
 budgetOf (host h budget) = budget
-budgetOf (probe h budget argumentRoom nodeRoom) = budget
+budgetOf (trees h budget argumentRoom nodeRoom) = budget
 
 -- accepted, or the first cause that turns the call away
 abbrev pub verdictOf : List ℕ → Call → Verdict
 verdictOf s (query h budget argumentRoom nodeRoom) = queryVerdict s h budget argumentRoom nodeRoom
 verdictOf s (host h budget) = queryVerdict s h budget 4096 4096
-verdictOf s (probe h budget argumentRoom nodeRoom) = queryVerdict s h budget argumentRoom nodeRoom
+verdictOf s (trees h budget argumentRoom nodeRoom) = queryVerdict s h budget argumentRoom nodeRoom
 
 -- when a call is to say YES: it is not turned away, N is within its budget, its literal is warranted
 pub record Grants (s : List ℕ) (c : Call) : Type 0 where

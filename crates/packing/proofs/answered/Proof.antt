@@ -1,10 +1,10 @@
--- The number of an answer, by its cases: each is the answer's own number. Assumes nothing.
+-- The number of an answer, by its cases: each is the answer's own number.
 use mathlib.Core.Path.{ap}
 use native.Mathlib.Omega.{arith}
 use Rattle.calls.specs.Calls.{answeredNumber}
 use borrow.Author.Needs.{needs}
-use Rattle.probe.proofs.answered.Statement.{statement}
-use Rattle.probe.proofs.answered.Tie as tie
+use Rattle.packing.proofs.answered.Statement.{statement}
+use Rattle.packing.proofs.answered.Tie as tie
 
 enum-known-answer : tie.Need-enum-known-answer
 enum-known-answer c = search needs
@@ -48,17 +48,8 @@ add-result-4 c = search needs
 enum-known-answer-5 : tie.Need-enum-known-answer-5
 enum-known-answer-5 c = search needs
 
-cast-result-5 : tie.Need-cast-result-5
-cast-result-5 c = search needs
-
-mul-result : tie.Need-mul-result
-mul-result c = search needs
-
-cast-result-6 : tie.Need-cast-result-6
-cast-result-6 c = search needs
-
-add-result-5 : tie.Need-add-result-5
-add-result-5 c = search needs
+refusal-requires : tie.Need-refusal-requires
+refusal-requires c κs = search needs
 
 returns : tie.Need-returns
 returns c = omega (arith, ap answeredNumber (c .before .answer .given .1))
@@ -76,7 +67,7 @@ returns-5 : tie.Need-returns-5
 returns-5 c = omega (arith, ap answeredNumber (c .before .answer4 .given .1))
 
 returns-6 : tie.Need-returns-6
-returns-6 c = omega (arith, ap answeredNumber (c .before .answer5 .given .1))
+returns-6 c = omega (arith, c .refusal .ensures, ap answeredNumber (c .before .before .answer5 .given .1))
 
 pub answered-spec : {M : Type 1} → statement M
 answered-spec =
@@ -96,10 +87,7 @@ answered-spec =
     cast-result-4
     add-result-4
     enum-known-answer-5
-    cast-result-5
-    mul-result
-    cast-result-6
-    add-result-5
+    refusal-requires
     returns
     returns-2
     returns-3

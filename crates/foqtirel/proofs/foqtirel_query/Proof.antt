@@ -55,13 +55,13 @@ use Rattle.nodes.proofs.Node as node
 use Rattle.nodes.proofs.Node.Laws as node-laws
 use Rattle.warrant.proofs.query.Symbol as query-symbol
 use Rattle.warrant.proofs.query.Met as query-met
-use Rattle.host.proofs.pack as pack
-use Rattle.host.proofs.pack.Symbol as pack-symbol
-use Rattle.host.proofs.pack.Met as pack-met
-use Rattle.host.proofs.foqtirel_query.Key.{name as #foqtirel-query}
-use Rattle.host.proofs.foqtirel_query as host
-use Rattle.host.proofs.foqtirel_query.Statement as stated
-use Rattle.host.proofs.foqtirel_query.Code as code
+use Rattle.packing.proofs.pack as pack
+use Rattle.packing.proofs.pack.Symbol as pack-symbol
+use Rattle.packing.proofs.pack.Met as pack-met
+use Rattle.foqtirel.proofs.foqtirel_query.Key.{name as #foqtirel-query}
+use Rattle.foqtirel.proofs.foqtirel_query as host
+use Rattle.foqtirel.proofs.foqtirel_query.Statement as stated
+use Rattle.foqtirel.proofs.foqtirel_query.Code as code
 
 abbrev stayed : Stays (host.ended .signature .params) (host.ended .kept)
 stayed = (
@@ -281,4 +281,4 @@ foqtirel-query-spec 𝓤 H 𝓜 𝓖 𝓡 =
     (cited 𝓤 H (Query 𝓤 H (𝓖 .A)) 𝓜 𝓡 code.env query-symbol.name query-symbol.routine
     code.calls-warrant·query (query-met.met 𝓤 H 𝓜 𝓖 𝓡))
     (cited 𝓤 H (Pack 𝓤 H (𝓖 .A) mem run) 𝓜 𝓡 code.env pack-symbol.name pack-symbol.routine
-    code.calls-host·pack (pack-met.met 𝓤 H 𝓜 𝓖 𝓡)))
+    code.calls-packing·pack (pack-met.met 𝓤 H 𝓜 𝓖 𝓡)))

@@ -1,0 +1,50 @@
+// The calls for C programs: libfoqtirel.a, declared in include/foqtirel.h.
+ghost use mathlib.Core.Path.{_≡_};
+ghost use lib.ListN.{length};
+ghost use Rattle.calls.specs.Calls.{checkCall, listCall, listTable, treesCall, queryArguments, queryNodes, hostCall};
+use nodes::Node;
+
+// 0 where the image is accepted, else number * 2^32 + place.
+#[no_mangle]
+pub extern "C" fn foqtirel_check(image: &[u8]) -> u64
+    ensures { λ r. ⌜ r ≡ checkCall (now (image .entry)) ⌝ }
+{
+    packing::verdict(warrant::check(image))
+}
+
+// The number of arguments, or number * 2^32 + place of the cause; and the lent table.
+#[no_mangle]
+pub extern "C" fn foqtirel_list(image: &[u8], arguments: &mut [u32]) -> u64
+    ensures { λ r. ⌜ (r ≡ listCall (now (image .entry)) (length (now (arguments .entry)))) × (now (arguments .exit) ≡ listTable (now (image .entry)) (now (arguments .entry))) ⌝ }
+{
+    packing::listed(warrant::list(image, arguments))
+}
+
+// A literal's answer as one number, or number * 2^32 + place of the cause; and the two lent tables.
+#[no_mangle]
+pub extern "C" fn foqtirel_trees(
+    image: &[u8],
+    literal: u32,
+    budget: u32,
+    arguments: &mut [u32],
+    nodes: &mut [Node],
+) -> u64
+    ensures { λ r. ⌜ (r ≡ treesCall (now (image .entry)) literal budget (length (now (arguments .entry))) (length (now (nodes .entry)))) × (now (arguments .exit) ≡ queryArguments (now (image .entry)) literal budget (now (arguments .entry)) (length (now (nodes .entry)))) × (now (nodes .exit) ≡ queryNodes (now (image .entry)) literal budget (length (now (arguments .entry))) (now (nodes .entry))) ⌝ }
+{
+    packing::answered(warrant::query(image, literal, budget, arguments, nodes))
+}
+
+// A literal's answer as one number, with tables of its own that the answer does not show.
+#[no_mangle]
+pub extern "C" fn foqtirel_query(image: &[u8], literal: u32, budget: u32) -> u32
+    ensures { λ r. ⌜ r ≡ hostCall (now (image .entry)) literal budget ⌝ }
+{
+    let mut arguments = [0u32; 4096];
+    let mut nodes = [Node {
+        argument: 0,
+        parent: 0,
+        kind: 0,
+        mark: 0,
+    }; 4096];
+    packing::pack(warrant::query(image, literal, budget, &mut arguments, &mut nodes))
+}

@@ -1,2 +1,0 @@
--- What the exports return.
-pub mod Probe
