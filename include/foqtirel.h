@@ -5,6 +5,10 @@
  * Link with libfoqtirel.a, which `rt staticlib foqtirel` writes to target/staticlib/, for x86-64 and the System V calling
  * convention. It needs nothing else but the memory functions of a C library: memset, memcpy, memmove, memcmp.
  *
+ * Its code is position independent, so that a shared library can be made of it, which offers the four calls:
+ *
+ *     cc -shared -Wl,--whole-archive target/staticlib/libfoqtirel.a -Wl,--no-whole-archive -o target/libfoqtirel.so
+ *
  * docs/IMAGE.md has the image's format, docs/GUARANTEES.md what is proved of the calls.
  */
 #ifndef FOQTIREL_H
@@ -61,13 +65,16 @@ struct foqtirel_node {
  * trees: FOQTIREL_STACK_CHECK bytes are enough for every check, FOQTIREL_STACK_LIST bytes for every list, and
  * FOQTIREL_STACK_LIST_12 bytes for one of a program with at most 12 defeasible rules.
  *
- * These figures are measured, not proved: the tests run the calls on threads with such stacks.
+ * These figures are measured, not proved: the tests run the calls on threads with such stacks. For programs with up to 12
+ * defeasible rules and with 16 of them they found enough, with short lines: 76 and 1,100 KiB for foqtirel_list, 132 and
+ * 1,156 KiB for foqtirel_trees, 196 and 1,220 KiB for foqtirel_query; and 252 bytes for each argument more on a line. For
+ * foqtirel_check 16 KiB are enough, and no thread has less. A smaller stack is overrun, as it would be by any C function.
  */
 #define FOQTIREL_STACK_MOST (4u * 1024u * 1024u)
 #define FOQTIREL_STACK_12_RULES (512u * 1024u)
 #define FOQTIREL_STACK_12_LINE 512u
 #define FOQTIREL_STACK_LEVEL 512u
-#define FOQTIREL_STACK_CHECK (64u * 1024u)
+#define FOQTIREL_STACK_CHECK (16u * 1024u)
 #define FOQTIREL_STACK_LIST (2u * 1024u * 1024u)
 #define FOQTIREL_STACK_LIST_12 (128u * 1024u)
 

@@ -1,6 +1,8 @@
 //! The warrant engine once more, written slowly and literally from document 01 and from
 //! Definitions 1 to 9, with generators of images to run another implementation against.
 
+#[cfg(feature = "library")]
+pub mod compiler;
 pub mod fittings;
 pub mod generator;
 pub mod header;

@@ -9,7 +9,7 @@ use foqtirel_binding::{
 };
 use foqtirel_tests::fittings::{F, FITTINGS};
 use foqtirel_tests::generator::{damaged, Description};
-use foqtirel_tests::reference::{self, Cause, Code, NodeEntry};
+use foqtirel_tests::reference::{self, Analysis, Cause, Code, NodeEntry};
 use foqtirel_tests::vectors;
 
 const TABLE: usize = 4096;
@@ -299,17 +299,20 @@ fn null_tables_have_no_entries() {
     let mut answers = 0;
     for name in vectors::names("img") {
         let image = vectors::image(&name);
-        let wanted = reference::list(&image, &mut []);
-        let wanted = wanted.map_or_else(reference::Refusal::packed, |count| count as u64);
+        let analysis = Analysis::of_image(&image);
+        let listed = analysis.as_ref().map_err(|&refusal| refusal);
+        let listed = listed.and_then(|analysis| analysis.list(&mut []));
+        let wanted = listed.map_or_else(reference::Refusal::packed, |count| count as u64);
         assert_eq!(list(&image, &mut []), wanted, "{name}");
         // SAFETY: nothing is written to tables without entries.
         let given = unsafe { raw::foqtirel_list(image.as_ptr(), image.len(), null_mut(), 0) };
         assert_eq!(given, wanted, "{name}");
         for literal in [0, 2, 127, 128] {
             for budget in [0, 1] {
-                let wanted = reference::query(&image, literal, budget, &mut [], &mut []);
-                let wanted = match wanted {
-                    Ok(_) => u64::from(reference::host_number(wanted)),
+                let answer = analysis.as_ref().map_err(|&refusal| refusal);
+                let answer = answer.and_then(|a| a.query(literal, budget, &mut [], &mut []));
+                let wanted = match answer {
+                    Ok(_) => u64::from(reference::host_number(answer)),
                     Err(refusal) => refusal.packed(),
                 };
                 answers += usize::from(granted(wanted).is_ok());

@@ -17,6 +17,8 @@ use foqtirel_tests::vectors;
 
 const KIB: usize = 1024;
 const PAGE: usize = 4 * KIB;
+/// The system gives a thread this much even where less is asked for.
+const LEAST_THREAD: usize = 16 * KIB;
 /// Tells a process of this test what to do.
 const ORDER: &str = "FOQTIREL_STACK_ORDER";
 /// Enough for every list the tests make.
@@ -156,9 +158,9 @@ fn suffices(stack: usize, what: &str) -> bool {
     output.status.success()
 }
 
-/// The least stack that is enough, in bytes, to a page.
+/// The least stack that is enough, in bytes, to a page, and at least what a thread has anyway.
 fn least_stack(what: &str) -> usize {
-    let (mut too_little, mut enough) = (0, 4096 * KIB);
+    let (mut too_little, mut enough) = (LEAST_THREAD - PAGE, 4096 * KIB);
     assert!(suffices(enough, what), "{what} needs more than 4 MiB");
     while enough - too_little > PAGE {
         let middle = (too_little + enough) / 2 / PAGE * PAGE;
@@ -176,7 +178,7 @@ fn least_stack(what: &str) -> usize {
 fn every_call_ends_on_the_stack_of_the_header() {
     let header = constants();
     for (figure, most, what) in [
-        ("STACK_CHECK", 64, "check upto=16"),
+        ("STACK_CHECK", 16, "check upto=16"),
         ("STACK_LIST_12", 128, "list upto=12"),
         ("STACK_LIST", 2048, "list upto=16"),
         ("STACK_12_RULES", 512, "trees upto=12"),
@@ -235,8 +237,9 @@ fn the_figures_of_the_header_hold() {
 /// Measured, not judged.
 #[test]
 fn least_stacks() {
-    let alone = least_stack("nothing") / KIB;
-    let mut lines = format!("least stack for a thread alone: {alone} KiB\n");
+    let alone = least_stack("nothing");
+    assert_eq!(alone, LEAST_THREAD, "the measure itself takes stack");
+    let mut lines = String::new();
     for rules in [0, 8, 12, 16] {
         let least = Call::ALL.map(|call| {
             let word = call.name();

@@ -34,9 +34,6 @@ const AT_RANDOM: usize = 4;
 /// One call in so many gets a table that is too short.
 const SHORT_EVERY: usize = 7;
 const MOST: u32 = MOST_NODES as u32;
-/// Vectors and literals with exactly as many nodes as the greatest budget, with one more, and with
-/// the longest line.
-const EXTREMES: [(&str, u32); 3] = [("n4096", 20), ("n4097", 28), ("deep180", 22)];
 
 pub fn compare(seed: u64, report: &mut QueryReport) {
     let mut random = Random::seeded(seed ^ 0x7175_6572);
@@ -51,7 +48,7 @@ pub fn compare(seed: u64, report: &mut QueryReport) {
     for image in vectors::images() {
         compare_image(Source::Vector, &image, &mut random, report);
     }
-    for (name, literal) in EXTREMES {
+    for (name, literal) in vectors::EXTREMES {
         let image = vectors::image(name);
         let analysis = Analysis::of_image(&image);
         let asked = Asked::new(&image, &analysis, &mut random);
