@@ -14,7 +14,9 @@ fn main() {
     println!("cargo:rerun-if-changed={}", library.display());
     if !library.exists() {
         eprintln!("{} is not there.", library.display());
-        eprintln!("Make it with `rt staticlib foqtirel`, or set FOQTIREL_LIB_DIR to its directory.");
+        eprintln!(
+            "Make it with `rt staticlib foqtirel`, or set FOQTIREL_LIB_DIR to its directory."
+        );
         std::process::exit(1);
     }
     println!("cargo:rustc-link-search=native={}", directory.display());

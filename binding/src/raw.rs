@@ -19,12 +19,7 @@ extern "C" {
     ///
     /// # Safety
     /// See [the module](self).
-    pub fn foqtirel_list(
-        image: *const u8,
-        length: usize,
-        arguments: *mut u32,
-        room: usize,
-    ) -> u64;
+    pub fn foqtirel_list(image: *const u8, length: usize, arguments: *mut u32, room: usize) -> u64;
 
     /// Code × 2^16 + nodes, or number × 2^32 + place.
     ///

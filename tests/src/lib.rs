@@ -3,6 +3,7 @@
 
 #[cfg(feature = "library")]
 pub mod compiler;
+pub mod documents;
 pub mod fittings;
 pub mod generator;
 pub mod header;
