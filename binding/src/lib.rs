@@ -122,3 +122,47 @@ pub fn query(image: &[u8], literal: u32, budget: u32) -> u32 {
 pub fn library() -> &'static Path {
     Path::new(env!("FOQTIREL_LIBRARY"))
 }
+
+#[cfg(test)]
+mod tests {
+    use super::*;
+
+    const REFUSED: Refusal = Refusal {
+        number: 10,
+        place: 3,
+    };
+    const YES: Answer = Answer { code: 1, nodes: 3 };
+
+    #[test]
+    fn results_of_64_bits() {
+        assert_eq!(granted(0), Ok(0));
+        assert_eq!(granted(78_057), Ok(78_057));
+        assert_eq!(granted((10 << 32) + 3), Err(REFUSED));
+        assert_eq!(answered_with_trees((1 << 16) + 3), Ok(YES));
+        assert_eq!(answered_with_trees((10 << 32) + 3), Err(REFUSED));
+    }
+
+    #[test]
+    fn results_of_32_bits() {
+        assert_eq!(answered((1 << 16) + 3), Ok(YES));
+        assert_eq!(answered(4 << 16), Ok(Answer { code: 4, nodes: 0 }));
+        assert_eq!(answered(23), Err(23));
+    }
+
+    /// A fact, by every call.
+    #[test]
+    fn calls_on_an_image() {
+        let image = [1, 0, 1, 0, 0, 0, 0, 0, 16, 0, 2, 0, 18, 0, 0, 0, 0, 1];
+        let mut arguments = [7; 2];
+        let mut nodes = [Node::default(); 2];
+        assert_eq!(granted(check(&image)), Ok(0));
+        assert_eq!(granted(list(&image, &mut arguments)), Ok(1));
+        assert_eq!(arguments, [1, 7]);
+        let answer = Answer { code: 2, nodes: 1 };
+        let result = trees(&image, 0, 2, &mut arguments, &mut nodes);
+        assert_eq!(answered_with_trees(result), Ok(answer));
+        assert_eq!(answered(query(&image, 0, 2)), Ok(answer));
+        assert!(nodes[0].undefeated() && !nodes[1].undefeated());
+        assert!(granted(check(&image[1..])).is_err());
+    }
+}

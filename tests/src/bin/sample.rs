@@ -31,7 +31,7 @@ fn main() -> ExitCode {
         counts.entries,
         counts.odd
     );
-    let enough = counts.answers > 300 && counts.refusals > 300 && counts.entries > 1_000;
+    let enough = counts.answers > 3_000 && counts.refusals > 3_000 && counts.entries > 50_000;
     if enough && counts.odd == 0 {
         ExitCode::SUCCESS
     } else {

@@ -119,10 +119,16 @@ fn missing_names(code: &str, sources: &Sources) -> Vec<String> {
     told
 }
 
-/// The names that go with the path at a position.
+/// The names that go with the path at a position: those right before it, or right after it and a colon.
 fn names_at(pieces: &[Piece], position: usize) -> Vec<&str> {
-    let before = names_before(&pieces[..position]);
-    let after = names_after(&pieces[position + 1..]);
+    let before = pieces[..position]
+        .rchunks_exact(2)
+        .map(|two| (&two[1], &two[0]));
+    let before = listed(before, &["", "(", ",", "in", ", in"]);
+    let after = pieces[position + 1..]
+        .chunks_exact(2)
+        .map(|two| (&two[0], &two[1]));
+    let after = listed(after, &[":"]);
     let names = before.into_iter().chain(after).map(name_of);
     names.filter(|name| is_name(name)).collect()
 }
@@ -139,34 +145,22 @@ fn misplaced(names: &[&str], path: &str, sources: &Sources) -> Vec<String> {
         .collect()
 }
 
-/// The names right before a path: a list of code spans, with nothing but a comma, `and`, `in` or a bracket between.
-fn names_before<'a>(pieces: &'a [Piece]) -> Vec<&'a str> {
+/// Code spans after gaps, as long as the first gap is one of some, and the others are a comma or `and`.
+fn listed<'a>(pairs: impl Iterator<Item = (&'a Piece, &'a Piece)>, first: &[&str]) -> Vec<&'a str> {
     let mut names = Vec::new();
-    let mut joints: &[&str] = &["", "(", ",", "in", ", in"];
-    for two in pieces.rchunks_exact(2) {
-        match two {
-            [Piece::Code { text, .. }, Piece::Gap(gap)] if joints.contains(&gap.as_str()) => {
-                names.push(text.as_str());
-                joints = &[",", "and", ", and"];
-            }
-            _ => break,
+    for pair in pairs {
+        let (Piece::Gap(gap), Piece::Code { text, .. }) = pair else {
+            break;
+        };
+        let joints = if names.is_empty() {
+            first
+        } else {
+            &[",", "and", ", and"]
+        };
+        if !joints.contains(&gap.as_str()) {
+            break;
         }
-    }
-    names
-}
-
-/// The names right after a path and a colon.
-fn names_after<'a>(pieces: &'a [Piece]) -> Vec<&'a str> {
-    let mut names = Vec::new();
-    let mut joints: &[&str] = &[":"];
-    for two in pieces.chunks_exact(2) {
-        match two {
-            [Piece::Gap(gap), Piece::Code { text, .. }] if joints.contains(&gap.as_str()) => {
-                names.push(text.as_str());
-                joints = &[",", "and", ", and"];
-            }
-            _ => break,
-        }
+        names.push(text.as_str());
     }
     names
 }
