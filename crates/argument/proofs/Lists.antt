@@ -1,17 +1,18 @@
--- The argument list holds the arguments and nothing else, each once, ascending. Assumes nothing.
-use mathlib.Core.Path.{_≡_, ap, ap₂, _∙_, subst, subst₂}
+-- The argument list holds the arguments and nothing else, each once, ascending; and no other list does.
+use mathlib.Core.Path.{_≡_, sym, ap, ap₂, _∙_, subst, subst₂}
 use mathlib.Core.Bool.{Bool, true, false}
-use mathlib.Core.List.{List, [], _∷_, _++_, List·Memᴰ, List·Memᴰ·not-nil, List·Memᴰ·append-cases, Memᴰ·append-left, Memᴰ·append-right}
-use mathlib.Core.Logic.{_⊎_, inl, inr, ⊎-elim}
+use mathlib.Core.List.{List, [], _∷_, _++_, List·Memᴰ, List·Memᴰ·not-nil, List·Memᴰ·cases-cons, List·Memᴰ·append-cases, Memᴰ·append-left, Memᴰ·append-right}
+use mathlib.Core.Logic.{_⊎_, inl, inr, ⊎-elim, _↔_}
 use Prim.Native.Nat.{ℕ, zero, suc, _+_, _*_, _^_, _<_, _≤_}
 use native.Mathlib.Nat.{eq-or-lt-of-le}
 use native.Mathlib.Omega.{arith}
-use Rattle.lists.specs.Lists.{keep}
+use Rattle.lists.specs.Lists.{keep, Ascending, Within}
 use Rattle.lists.proofs.Lists.{T-true, keep-head, keep-tail, keep-cases}
+use Rattle.lists.proofs.Orders.{ascending-same}
 use Rattle.literals.proofs.Tests.{true-T}
 use Rattle.program.specs.Program.{Rule, defeasibles}
 use Rattle.derivation.specs.Derivation.{HeadsBelow}
-use Rattle.argument.specs.Argument.{Argument, maskOf, literalOf}
+use Rattle.argument.specs.Argument.{Argument, maskOf, literalOf, ArgumentList}
 use Rattle.argument.specs.List.{isArgument, picked, listBy, argumentList, Ascends}
 use Rattle.argument.proofs.Minimal.{argument-mask-below, argument-literal-below, isArgument-sound, isArgument-complete}
 
@@ -102,6 +103,18 @@ ascends-append (x ∷ l) k low middle high a b =
     let q = ascends-le k middle high b in
     (a .0, omega arith, ascends-append l k (suc x) middle high (a .2) b)
 
+pub ascends-low : (l : List ℕ) (low high z : ℕ) → Ascends low high l → List·Memᴰ z l → low ≤ z
+ascends-low [] low high z a i = absurd (List·Memᴰ·not-nil i)
+ascends-low (x ∷ l) low high z a i =
+    let b = a .0 in
+    ⊎-elim (λ e. omega arith) (λ j. omega (arith, ascends-low l (suc x) high z (a .2) j)) (List·Memᴰ·cases-cons i)
+
+-- within any bounds
+pub ascends-ascending : (l : List ℕ) (low high : ℕ) → Ascends low high l → Ascending l
+ascends-ascending [] low high a = tt
+ascends-ascending (x ∷ l) low high a =
+    (λ y i. omega (arith, ascends-low l (suc x) high y (a .2) i), ascends-ascending l (suc x) high (a .2))
+
 pub picked-ascends : (test : ℕ → Bool) (base k n : ℕ) → Ascends (base + k) (base + (k + n)) (picked test base k n)
 unfolding picked
 picked-ascends test base k zero = omega arith
@@ -129,6 +142,12 @@ listed-ascends test k (suc n) =
     first = picked (test k) (k * 128) 0 128
 
 -- the list
+pub list-ascends : (rules : List Rule) → Ascends 0 (2 ^ defeasibles rules * 128) (argumentList rules)
+unfolding argumentList
+list-ascends rules =
+    subst (λ (x : ℕ). Ascends 0 x (listBy (isArgument rules) 0 (2 ^ defeasibles rules))) (omega arith)
+    (listed-ascends (isArgument rules) 0 (2 ^ defeasibles rules))
+
 module _ (rules : List Rule) (heads : HeadsBelow 128 rules) where
   pub list-sound : (x : ℕ) → List·Memᴰ x (argumentList rules) → Argument rules (maskOf x) (literalOf x)
   unfolding argumentList
@@ -152,8 +171,28 @@ module _ (rules : List Rule) (heads : HeadsBelow 128 rules) where
       let q : h ≡ literalOf (m * 128 + h) = omega arith in
       list-complete (m * 128 + h) (subst₂ (Argument rules) p q a)
 
-pub list-ascends : (rules : List Rule) → Ascends 0 (2 ^ defeasibles rules * 128) (argumentList rules)
-unfolding argumentList
-list-ascends rules =
-    subst (λ (x : ℕ). Ascends 0 x (listBy (isArgument rules) 0 (2 ^ defeasibles rules))) (omega arith)
-    (listed-ascends (isArgument rules) 0 (2 ^ defeasibles rules))
+  -- it is the published list
+  pub list-is : ArgumentList rules (argumentList rules)
+  list-is = record {
+    each-is-one = list-sound;
+    has-each = argument-listed;
+    ascends = ascends-ascending (argumentList rules) 0 (2 ^ defeasibles rules * 128) (list-ascends rules);
+  }
+
+  -- an argument's number is an entry
+  has-each-number : (l : List ℕ) → ArgumentList rules l → (x : ℕ) → Argument rules (maskOf x) (literalOf x) → List·Memᴰ x l
+  has-each-number l a x b =
+      let whole : maskOf x * 128 + literalOf x ≡ x = omega arith in
+      subst (λ (y : ℕ). List·Memᴰ y l) whole (a .has-each (maskOf x) (literalOf x) b)
+
+  lists-within : (l m : List ℕ) → ArgumentList rules l → ArgumentList rules m → Within l m
+  lists-within l m a b x i = has-each-number m b x (a .each-is-one x i)
+
+  -- and the only one
+  pub list-published : (l : List ℕ) → ArgumentList rules l ↔ (l ≡ argumentList rules)
+  list-published l = (
+    λ a.
+        ascending-same l (argumentList rules) (a .ascends) (list-is .ascends)
+        (lists-within l (argumentList rules) a list-is) (lists-within (argumentList rules) l list-is a),
+    λ e. subst (ArgumentList rules) (sym e) list-is,
+  )

@@ -1,8 +1,9 @@
--- Arguments (document 01, "Derivation and arguments"). Assumes nothing.
+-- Arguments and their list (document 01, "Derivation and arguments").
 use mathlib.Core.Path.{_≡_}
 use mathlib.Core.Bool.{true}
-use mathlib.Core.List.{List}
-use Prim.Native.Nat.{ℕ, _/_, _%_}
+use mathlib.Core.List.{List, List·Memᴰ}
+use Prim.Native.Nat.{ℕ, _+_, _*_, _/_, _%_}
+use Rattle.lists.specs.Lists.{Ascending}
 use Rattle.literals.specs.Sets.{has}
 use Rattle.program.specs.Program.{Rule, Π-mask}
 use Rattle.derivation.specs.Derivation.{Derives, Contradictory}
@@ -29,3 +30,10 @@ literalOf x = x % 128
 pub record SubArgument (rules : List Rule) (z x : ℕ) : Type 0 where
   pub argument : Argument rules (maskOf z) (literalOf z)
   pub part : Subset (maskOf z) (maskOf x)
+
+-- "The argument list holds each argument once, as M × 128 + h, ascending"
+pub record ArgumentList (rules : List Rule) (list : List ℕ) : Type 0 where
+  pub each-is-one : (x : ℕ) → List·Memᴰ x list → Argument rules (maskOf x) (literalOf x)
+  pub has-each : (m h : ℕ) → Argument rules m h → List·Memᴰ (m * 128 + h) list
+  -- strictly, and so each once
+  pub ascends : Ascending list

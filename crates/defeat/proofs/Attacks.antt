@@ -2,7 +2,7 @@
 -- follows. Assumes nothing.
 use mathlib.Core.Path.{_≡_, refl, sym, ap, ap₂, _∙_, subst}
 use mathlib.Core.Bool.{Bool, true, false, _&&_, false≢true}
-use mathlib.Core.List.{List, [], _∷_, List·Memᴰ, List·Memᴰ·head, List·Memᴰ·tail, List·Memᴰ·not-nil, List·Memᴰ·cases-cons}
+use mathlib.Core.List.{List, [], _∷_, List·Memᴰ, List·Memᴰ·head, List·Memᴰ·tail, List·Memᴰ·cases-cons}
 use mathlib.Core.Logic.{⊎-elim}
 use Prim.Native.Nat.{ℕ, zero, suc, _+_, _*_, _^_, _<_, _≤_}
 use native.Mathlib.Numerals.{add-one}
@@ -29,7 +29,7 @@ use Rattle.argument.specs.Fresh.{maskClosure}
 use Rattle.argument.specs.Closures.{closureAt}
 use Rattle.argument.proofs.Minimal.{argument-derives, argument-coherent, argument-mask-below}
 use Rattle.argument.proofs.SubArguments.{argument-derived, sub-argument-literal, literal-sub-argument}
-use Rattle.argument.proofs.Lists.{list-sound, list-complete, list-ascends}
+use Rattle.argument.proofs.Lists.{list-sound, list-complete, ascends-low, list-ascends}
 use Rattle.defeat.specs.Tests.{kind}
 use Rattle.defeat.specs.OfProgram.{testsOf}
 use Rattle.defeat.specs.Exclusions.{excludedBy, Ready}
@@ -200,12 +200,6 @@ module _ {p : Program} {u : ℕ} {table closures exclusions arguments : List ℕ
 -- ---- the list from an index on
 
 -- one of a list that ascends is below those that follow
-ascends-low : (l : List ℕ) (low high z : ℕ) → Ascends low high l → List·Memᴰ z l → low ≤ z
-ascends-low [] low high z a i = absurd (List·Memᴰ·not-nil i)
-ascends-low (x ∷ l) low high z a i =
-    let b = a .0 in
-    ⊎-elim (λ e. omega arith) (λ j. omega (arith, ascends-low l (suc x) high z (a .2) j)) (List·Memᴰ·cases-cons i)
-
 ascends-rest : (l : List ℕ) (low high i z : ℕ) → Ascends low high l → i < length l → List·Memᴰ z (drop i l) → getD l i 0 ≤ z
 ascends-rest [] low high i z a h j = absurd (omega arith)
 ascends-rest (x ∷ l) low high zero z a h j =

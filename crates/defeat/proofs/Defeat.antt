@@ -1,5 +1,4 @@
 -- The computed defeaters are the published ones, and of two arguments that exclude each other one defeats the other.
--- Assumes nothing.
 use mathlib.Core.Bool.{not, _&&_}
 use mathlib.Core.List.{List·Memᴰ}
 use mathlib.Core.Logic.{inl, inr}
@@ -16,18 +15,21 @@ use Rattle.defeat.proofs.Renders.{Renders}
 
 module _ {A : Type 0} {F : Frame A} {t : Tests A} (R : Renders F t)
     (x y : A) (ax : F .Argument x) (ay : F .Argument y) where
+  attacked-argument : {z : A} → AttacksAt F x y z → F .Argument z
+  attacked-argument {z} a = R .sub-argument z y (a .sub)
+
   pub attacked-found : {z : A} → List·Memᴰ z (attacked t x y) → AttacksAt F x y z
   unfolding attacked
   attacked-found {z} i =
       let f = filter-found (λ z. t .sub z y && t .excludes x z) (t .arguments) i in
       let az = R .argument z .1 (f .0) in
       let k = decides-and (R .sub z y az ay) (R .excludes x z ax az) .says (f .1) in
-      record { argument = az; sub = k .0; excludes = k .1 }
+      record { sub = k .0; excludes = k .1 }
 
   pub attacked-intro : {z : A} → AttacksAt F x y z → List·Memᴰ z (attacked t x y)
   unfolding attacked
   attacked-intro {z} a =
-      let az = a .argument in
+      let az = attacked-argument a in
       let k = decides-and (R .sub z y az ay) (R .excludes x z ax az) .passes (a .sub, a .excludes) in
       filter-intro (λ z. t .sub z y && t .excludes x z) (t .arguments) (R .argument z .0 az) k
 
@@ -37,7 +39,7 @@ module _ {A : Type 0} {F : Frame A} {t : Tests A} (R : Renders F t)
       (λ r. record { at = r .0; attacks = attacked-found (r .1); preferred = r .2 })
       (λ p. (p .at, attacked-intro (p .attacks), p .preferred))
       (decides-any (F .Preferred x) (t .preferred x) (attacked t x y)
-      (λ z i. R .preferred x z ax (attacked-found i .argument)))
+      (λ z i. R .preferred x z ax (attacked-argument (attacked-found i))))
 
   -- neither x nor z is preferred
   abbrev Neither : A → Type 0
@@ -47,7 +49,7 @@ module _ {A : Type 0} {F : Frame A} {t : Tests A} (R : Renders F t)
   unfolding neither
   neither-renders = decides-any Neither (λ z. not (t .preferred x z) && not (t .preferred z x)) (attacked t x y)
       (λ z i.
-      let az = attacked-found i .argument in
+      let az = attacked-argument (attacked-found i) in
       decides-and (decides-not (R .preferred x z ax az)) (decides-not (R .preferred z x az ax)))
 
   pub blocking-renders : Decides (blocking t x y) (BlockingDefeater F x y)
@@ -84,7 +86,7 @@ module _ {A : Type 0} {F : Frame A} (L : Laws F) where
     where
       -- each attacks the other at the whole of it
       there : AttacksAt F x y y
-      there = record { argument = ay; sub = L .sub-refl y ay; excludes = e }
+      there = record { sub = L .sub-refl y ay; excludes = e }
 
       back : AttacksAt F y x x
-      back = record { argument = ax; sub = L .sub-refl x ax; excludes = L .excludes-sym x y e }
+      back = record { sub = L .sub-refl x ax; excludes = L .excludes-sym x y e }

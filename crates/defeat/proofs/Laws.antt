@@ -1,5 +1,5 @@
 -- What the theorems ask of a frame: five laws. Nothing is asked of preference: no order, not even that two arguments are
--- never preferred over each other. Assumes nothing.
+-- never preferred over each other.
 use mathlib.Core.List.{List, [], _∷_, List·Memᴰ}
 use Rattle.lists.specs.Lists.{Within}
 use Rattle.defeat.specs.Frame.{Frame}
@@ -14,5 +14,5 @@ module _ {A : Type 0} (F : Frame A) where
     pub sub-refl : (x : A) → F .Argument x → F .SubArgument x x
     -- members x and w of a concordant list have no sub-arguments y and z that exclude each other
     pub concordant-apart : (l : List A) (x w y z : A) → F .Concordant l → List·Memᴰ x l → List·Memᴰ w l
-        → F .Argument y → F .Argument z → F .SubArgument y x → F .SubArgument z w → F .Excludes y z → ⊥
+        → F .SubArgument y x → F .SubArgument z w → F .Excludes y z → ⊥
     pub excludes-sym : (x y : A) → F .Excludes x y → F .Excludes y x

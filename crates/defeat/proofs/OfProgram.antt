@@ -1,5 +1,5 @@
 -- The frame of a program obeys the five laws, whatever the program and the preference; and the tests of a program whose
--- heads are below 128 answer what its frame states. Assumes nothing.
+-- heads are below 128 answer what its frame states.
 use mathlib.Core.Path.{_≡_, sym, subst}
 use mathlib.Core.Bool.{Bool, true, false}
 use mathlib.Core.List.{List, [], _∷_, List·Memᴰ, List·Memᴰ·head, List·Memᴰ·tail, List·Memᴰ·eq-of-singleton}
@@ -91,11 +91,11 @@ module _ (p : Program) (Preferred : ℕ → ℕ → Type 0) where
   F = frameOf p Preferred
 
   -- the literal of a sub-argument of one of them is derived from all
-  sub-derived : (l : List ℕ) (x y : ℕ) → List·Memᴰ x l → F .Argument y → F .SubArgument y x
+  sub-derived : (l : List ℕ) (x y : ℕ) → List·Memᴰ x l → F .SubArgument y x
       → Derives (Π-all l (p .rules)) (literalOf y)
-  sub-derived l x y i ay s =
-      derives-mono (Π-mask (maskOf y) (p .rules)) (Π-all l (p .rules)) (all-mask (p .rules) l x (maskOf y) i s) (literalOf y)
-      (ay .derived)
+  sub-derived l x y i s =
+      derives-mono (Π-mask (maskOf y) (p .rules)) (Π-all l (p .rules)) (all-mask (p .rules) l x (maskOf y) i (s .part)) (literalOf y)
+      (s .argument .derived)
 
   pub frame-laws : Laws (frameOf p Preferred)
   frame-laws = record {
@@ -103,10 +103,10 @@ module _ (p : Program) (Preferred : ℕ → ℕ → Type 0) where
         c (contradictory-more (Π-all l (p .rules)) (Π-all m (p .rules)) (all-fewer (p .rules) l m w) d);
     concordant-one = λ x a d.
         a .coherent (contradictory-more (Π-all (x ∷ []) (p .rules)) (Π-mask (maskOf x) (p .rules)) (all-one (p .rules) x) d);
-    sub-refl = λ x a b h. h;
-    concordant-apart = λ l x w y z c i j ay az s t e.
+    sub-refl = λ x a. record { argument = a; part = λ b h. h };
+    concordant-apart = λ l x w y z c i j s t e.
         c (contradictory-derived (Π (p .rules)) (Π-all l (p .rules)) (literalOf y) (literalOf z) (all-strict (p .rules) l)
-        (sub-derived l x y i ay s) (sub-derived l w z j az t) e);
+        (sub-derived l x y i s) (sub-derived l w z j t) e);
     excludes-sym = λ x y. excludes-swap (Π (p .rules)) (literalOf x) (literalOf y);
   }
 
@@ -128,8 +128,11 @@ module _ (p : Program) (heads : HeadsBelow 128 (p .rules)) (Preferred : ℕ → 
   unfolding testsOf
   frame-renders = record {
     argument = λ x. (list-complete (p .rules) heads x, list-sound (p .rules) heads x);
+    sub-argument = λ z y s. s .argument;
     sub = λ z y az ay.
-        by-test (within (maskOf z) (maskOf y)) (within-each (maskOf z) (maskOf y)) (each-within (maskOf z) (maskOf y));
+        by-test (within (maskOf z) (maskOf y))
+        (λ e. record { argument = az; part = within-each (maskOf z) (maskOf y) e })
+        (λ s. each-within (maskOf z) (maskOf y) (s .part));
     excludes = λ x z ax az.
         by-test (excludes (p .rules) (literalOf x) (literalOf z)) (excludes-sound (p .rules) (literalOf x) (literalOf z))
         (excludes-complete (p .rules) heads (literalOf x) (literalOf z) (omega arith) (omega arith));

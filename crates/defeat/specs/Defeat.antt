@@ -5,7 +5,6 @@ use Rattle.defeat.specs.Frame.{Frame}
 module _ {A : Type 0} (F : Frame A) (x y : A) where
   -- "Argument X attacks Y at a sub-argument Z of Y if the literals of X and Z exclude each other."
   pub record AttacksAt (z : A) : Type 0 where
-    pub argument : F .Argument z
     pub sub : F .SubArgument z y
     pub excludes : F .Excludes x z
 

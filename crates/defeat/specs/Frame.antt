@@ -4,7 +4,7 @@ use mathlib.Core.List.{List}
 
 pub record Frame (A : Type 0) : Type 1 where
   pub Argument : A → Type 0
-  -- `SubArgument z y`: z's mask is within y's. That z is an argument is said beside it.
+  -- the first is a sub-argument of the second
   pub SubArgument : A → A → Type 0
   -- their literals exclude each other
   pub Excludes : A → A → Type 0

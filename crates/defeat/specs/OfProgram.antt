@@ -8,7 +8,7 @@ use Rattle.literals.specs.Sets.{has, within}
 use Rattle.program.specs.Program.{Rule, Program, fact, Π-with, Π}
 use Rattle.derivation.specs.Derivation.{Contradictory}
 use Rattle.derivation.specs.Closure.{contradictory, excludes}
-use Rattle.argument.specs.Argument.{Subset, Argument, maskOf, literalOf}
+use Rattle.argument.specs.Argument.{Argument, SubArgument, maskOf, literalOf}
 use Rattle.argument.specs.List.{argumentList}
 use Rattle.defeat.specs.Frame.{Frame}
 use Rattle.defeat.specs.Tests.{Tests}
@@ -30,7 +30,7 @@ module _ (p : Program) where
     -- "An argument is a mask M and a literal h such that .."
     Argument = λ x. Argument (p .rules) (maskOf x) (literalOf x);
     -- "A sub-argument of (M, h) is any argument whose mask is a subset of M, M itself included."
-    SubArgument = λ z y. Subset (maskOf z) (maskOf y);
+    SubArgument = SubArgument (p .rules);
     -- "if the literals of X and Z exclude each other"
     Excludes = λ x z. Exclude (p .rules) (literalOf x) (literalOf z);
     -- "X is preferred over Z if .."

@@ -2,7 +2,7 @@
 -- waits: the first element that decides ends the test.
 use mathlib.Core.Bool.{Bool, true, false, _&&_, _||_}
 use mathlib.Core.List.{List, [], _∷_, List·Memᴰ}
-use Prim.Native.Nat.{ℕ, zero, suc}
+use Prim.Native.Nat.{ℕ, zero, suc, _<_}
 use lib.Dec.{eqb}
 
 module _ {A : Type 0} where
@@ -39,3 +39,8 @@ member n = any (eqb n)
 abbrev pub upto : ℕ → ℕ → List ℕ
 upto first zero = []
 upto first (suc count) = first ∷ upto (suc first) count
+
+-- strictly ascending: each number is below every one that follows it
+abbrev pub Ascending : List ℕ → Type 0
+Ascending [] = Unit {0}
+Ascending (x ∷ l) = ((y : ℕ) → List·Memᴰ y l → x < y) × Ascending l

@@ -1,7 +1,7 @@
 -- Two arguments that exclude each other are never both undefeated roots: demand 3 over any frame and any preference.
 -- Say a defeats b. Every line below b that a answers first, b and then `a, x2, .., xk`, is compared with its part from a
 -- on. A reply of b's side to the longer line is one to the shorter. A reply of a's side to the shorter is one to the
--- longer. So the marks of a's tree carry over: a is U below b, and b is D. Assumes nothing.
+-- longer. So the marks of a's tree carry over: a is U below b, and b is D.
 use mathlib.Core.Path.{_≡_, refl, ap}
 use mathlib.Core.List.{List, [], _∷_, _++_, List·Memᴰ, List·Memᴰ·head, List·Memᴰ·tail, Memᴰ·append-left, List·Memᴰ·append-cases, List·Memᴰ·eq-of-singleton}
 use mathlib.Core.Logic.{_⊎_, inl, inr}
@@ -77,13 +77,12 @@ module _ {A : Type 0} {F : Frame A} (L : Laws F) (b : A) where
   -- ---- replies of a's side to the shorter line are replies to the longer
 
   -- y attacks the last argument x, whose side has b too: were y a sub-argument of b, the side were not concordant
-  apart : (x : A) (l : List A) (y : A) → Others (x ∷ l) → F .Argument y → Defeater F y x → ¬ F .SubArgument y b
-  apart x l y i ay d s =
+  apart : (x : A) (l : List A) (y : A) → Others (x ∷ l) → Defeater F y x → ¬ F .SubArgument y b
+  apart x l y i d s =
       let (z, at) = defeater-attacks d in
       let side = acceptable-mine (i .keeps) in
       let here = List·Memᴰ·head refl in
-      let az = at .argument in
-      L .concordant-apart (mine (below (x ∷ l))) b x y z side (i .with-b) here ay az s (at .sub) (at .excludes)
+      L .concordant-apart (mine (below (x ∷ l))) b x y z side (i .with-b) here s (at .sub) (at .excludes)
 
   more : (l : List A) (y : A) → Others l → Child F l y → Child F (below l) y
   more [] y i c = absurd c
@@ -108,7 +107,7 @@ module _ {A : Type 0} {F : Frame A} (L : Laws F) (b : A) where
 
       earlier : (e : A) → List·Memᴰ e (x ∷ w ∷ l) ⊎ List·Memᴰ e (b ∷ []) → ¬ F .SubArgument y e
       earlier e (inl m) = j .none-within e m
-      earlier e (inr m) = rw (List·Memᴰ·eq-of-singleton m) (apart x (w ∷ l) y i ay d)
+      earlier e (inr m) = rw (List·Memᴰ·eq-of-singleton m) (apart x (w ∷ l) y i d)
 
   -- ---- so marks carry over: U on a's side, D on b's
 
@@ -141,7 +140,7 @@ module _ {A : Type 0} {F : Frame A} (L : Laws F) (b : A) where
     not-within : ¬ F .SubArgument a b
     not-within s =
         let here = List·Memᴰ·head refl in
-        L .concordant-apart (b ∷ []) b b a b (L .concordant-one b ab) here here aa ab s (L .sub-refl b ab) e
+        L .concordant-apart (b ∷ []) b b a b (L .concordant-one b ab) here here s (L .sub-refl b ab) e
 
     answer : Child F (b ∷ []) a
     answer = (

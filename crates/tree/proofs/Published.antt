@@ -1,5 +1,4 @@
 -- The computed forest is the published one, and there is no other: so document 01's sentences alone settle its nodes and N.
--- Assumes nothing.
 use mathlib.Core.Path.{_≡_, refl, sym, ap, subst}
 use mathlib.Core.Bool.{Bool, true, false}
 use mathlib.Core.List.{List, [], _∷_, _++_, List·Memᴰ, List·Memᴰ·head, List·Memᴰ·tail, List·Memᴰ·not-nil, List·Memᴰ·append-cases}
@@ -18,8 +17,8 @@ use Rattle.defeat.proofs.Renders.{Renders, Arguments}
 use Rattle.tree.specs.Line.{AcceptableLine}
 use Rattle.tree.specs.Marks.{Child}
 use Rattle.tree.specs.Reply.{replyKind}
-use Rattle.tree.specs.Forest.{Forest, size, pick, from, remaining, replies, forestOf}
-use Rattle.tree.specs.OfLiteral.{argumentsFor, forest, nodeCount}
+use Rattle.tree.specs.Forest.{Forest, pick, from, remaining, replies, forestOf}
+use Rattle.tree.specs.OfLiteral.{argumentsFor, forest}
 use Rattle.tree.specs.Published.{InOrder, end, kept, passed, KindOf, root, proper, blocking}
 use Rattle.tree.specs.Published.{Children, Grows, no-more, node, ForestFor}
 use Rattle.tree.proofs.Line.{acceptable-one}
@@ -201,6 +200,3 @@ module _ {F : Frame ℕ} {t : Tests ℕ} (L : Laws F) (R : Renders F t) (h : ℕ
     λ g. forest-unique g forest-grows,
     λ e. subst (ForestFor F (t .arguments) h) (sym e) forest-grows,
   )
-
-  pub count-settled : (f : Forest ℕ) → ForestFor F (t .arguments) h f → size f ≡ nodeCount t h
-  count-settled f g = ap size (forest-unique g forest-grows)

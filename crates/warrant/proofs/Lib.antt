@@ -1,7 +1,6 @@
 -- The theorems on the calls.
 pub mod Calls
 pub mod Claims
-pub mod Fittings
 pub mod Queries
 pub mod Rows
 pub mod Asking

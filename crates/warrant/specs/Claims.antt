@@ -9,13 +9,11 @@ use Rattle.derivation.specs.Derivation.{complement}
 use Rattle.layout.specs.declared.Verdict.{Verdict}
 use Rattle.layout.specs.declared.Verdict.the-variants.{Accepted}
 use Rattle.layout.specs.Reading.{programIn}
-use Rattle.argument.specs.List.{argumentList}
-use Rattle.preference.specs.Preference.{Preferred}
-use Rattle.defeat.specs.OfProgram.{Exclude, frameOf}
+use Rattle.defeat.specs.OfProgram.{Exclude}
 use Rattle.tree.specs.Forest.{Forest}
 use Rattle.tree.specs.Entries.{Entry}
-use Rattle.tree.specs.Published.{ForestFor, EntriesFor}
 use Rattle.answer.specs.Warrant.{WarrantedBy, Warranted}
+use Rattle.answer.specs.Forest.{ForestIn, EntriesIn}
 use Rattle.answer.specs.Answer.{Occurs, forest, nodeCount, forestEntries, tests, answer, codeOf, nodesOf}
 use Rattle.calls.specs.Calls.{queryVerdict, Call, query, host, trees, literalAsked, SaysYes}
 
@@ -35,10 +33,8 @@ pub record Answers (p : Program) (h budget : ℕ) : Type 0 where
   -- "4 UNKNOWN, 0 nodes"
   pub nodes-unknown : (¬ Occurs p h) → nodesOf (answer p h budget) ≡ 0
   -- the forest and its entries are the published ones, and no others are
-  pub forest-is : (f : Forest ℕ)
-      → ForestFor (frameOf p (Preferred p)) (argumentList (p .rules)) h f ↔ (f ≡ forest (tests p) h)
-  pub entries-are : (es : List Entry)
-      → EntriesFor (frameOf p (Preferred p)) (argumentList (p .rules)) h es ↔ (es ≡ forestEntries (tests p) h)
+  pub forest-is : (f : Forest ℕ) → ForestIn p h f ↔ (f ≡ forest (tests p) h)
+  pub entries-are : (es : List Entry) → EntriesIn p h es ↔ (es ≡ forestEntries (tests p) h)
   -- "N is its number of nodes": of the entries
   pub entries-are-N : length (forestEntries (tests p) h) ≡ nodeCount (tests p) h
 
