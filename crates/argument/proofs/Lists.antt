@@ -6,6 +6,7 @@ use mathlib.Core.Logic.{_⊎_, inl, inr, ⊎-elim, _↔_}
 use Prim.Native.Nat.{ℕ, zero, suc, _+_, _*_, _^_, _<_, _≤_}
 use native.Mathlib.Nat.{eq-or-lt-of-le}
 use native.Mathlib.Omega.{arith}
+use lib.ListN.{length}
 use Rattle.lists.specs.Lists.{keep, Ascending, Within}
 use Rattle.lists.proofs.Lists.{T-true, keep-head, keep-tail, keep-cases}
 use Rattle.lists.proofs.Orders.{ascending-same}
@@ -103,6 +104,10 @@ ascends-append (x ∷ l) k low middle high a b =
     let q = ascends-le k middle high b in
     (a .0, omega arith, ascends-append l k (suc x) middle high (a .2) b)
 
+ascends-length : (l : List ℕ) (low high : ℕ) → Ascends low high l → low + length l ≤ high
+ascends-length [] low high a = omega arith
+ascends-length (x ∷ l) low high a = let r = ascends-length l (suc x) high (a .2) in let h = a .0 in omega arith
+
 pub ascends-low : (l : List ℕ) (low high z : ℕ) → Ascends low high l → List·Memᴰ z l → low ≤ z
 ascends-low [] low high z a i = absurd (List·Memᴰ·not-nil i)
 ascends-low (x ∷ l) low high z a i =
@@ -147,6 +152,9 @@ unfolding argumentList
 list-ascends rules =
     subst (λ (x : ℕ). Ascends 0 x (listBy (isArgument rules) 0 (2 ^ defeasibles rules))) (omega arith)
     (listed-ascends (isArgument rules) 0 (2 ^ defeasibles rules))
+
+pub list-length : (rules : List Rule) → length (argumentList rules) ≤ 2 ^ defeasibles rules * 128
+list-length rules = omega (arith, ascends-length (argumentList rules) 0 (2 ^ defeasibles rules * 128) (list-ascends rules))
 
 module _ (rules : List Rule) (heads : HeadsBelow 128 rules) where
   pub list-sound : (x : ℕ) → List·Memᴰ x (argumentList rules) → Argument rules (maskOf x) (literalOf x)

@@ -1,4 +1,4 @@
--- What the tables that a call lends down say of the argument list: each argument once, at its index. Assumes nothing.
+-- What the tables that a call lends down say of the argument list: each argument once, at its index.
 use mathlib.Core.Path.{_≡_, refl, sym, ap, _∙_, subst}
 use mathlib.Core.List.{List, [], _∷_, List·Memᴰ, List·Memᴰ·head, List·Memᴰ·tail}
 use Prim.Native.Nat.{ℕ, zero, suc, _+_, _*_, _^_, _≤_, _<_}
@@ -13,17 +13,13 @@ use Rattle.literals.proofs.Within.{within-refl}
 use Rattle.program.specs.Program.{defeasibles}
 use Rattle.argument.specs.Argument.{maskOf}
 use Rattle.argument.specs.List.{argumentList, Ascends}
-use Rattle.argument.proofs.Lists.{list-ascends}
+use Rattle.argument.proofs.Lists.{list-ascends, list-length}
 use Rattle.defeat.specs.OfProgram.{testsOf}
 use Rattle.tree.specs.OfLiteral.{indexIn}
 use Rattle.tree.specs.Steps.{Prepared, testsIn}
 use Rattle.tree.proofs.Growing.{Listing}
 
 -- ---- a list that ascends
-
-ascends-length : (l : List ℕ) (low high : ℕ) → Ascends low high l → low + length l ≤ high
-ascends-length [] low high a = omega arith
-ascends-length (x ∷ l) low high a = let r = ascends-length l (suc x) high (a .2) in let h = a .0 in omega arith
 
 ascends-low : (l : List ℕ) (low high j : ℕ) → Ascends low high l → j < length l → low ≤ getD l j 0
 ascends-low [] low high j a h = absurd (omega arith)
@@ -75,8 +71,7 @@ module _ {table closures exclusions arguments : List ℕ} {count : ℕ} (w : Pre
   -- an index fits
   pub prepared-count : count ≤ 8388608
   prepared-count =
-      let a = ascends-length l 0 (2 ^ defeasibles (w .program .rules) * 128) (list-ascends (w .program .rules)) in
-      omega (arith, listed-length, few)
+      omega (arith, list-length (w .program .rules), listed-length, few)
 
   pub prepared-listing : Listing (testsIn w) arguments count
   unfolding testsOf
