@@ -1,6 +1,6 @@
 -- A call is turned away by listed causes only, by one that applies, and where one does; and what an accepted call fits.
 use mathlib.Core.Path.{_≡_, refl, sym, ap, _∙_, subst₂}
-use mathlib.Core.Bool.{Bool, true, false, _&&_, _||_, false≢true}
+use mathlib.Core.Bool.{Bool, true, false, _&&_, false≢true}
 use mathlib.Core.List.{List}
 use mathlib.Core.Logic.{_↔_}
 use Prim.Native.Nat.{ℕ, zero, suc, _+_, _≤_, _<_}
@@ -25,10 +25,9 @@ use Rattle.derivation.specs.Derivation.{Contradictory, HeadsBelow}
 use Rattle.derivation.specs.Closure.{contradictory}
 use Rattle.derivation.proofs.Contradictions.{contradictory-sound, contradictory-complete}
 use Rattle.derivation.proofs.Choices.{Π-with-rules}
-use Rattle.argument.specs.Argument.{ArgumentList}
 use Rattle.argument.proofs.Lists.{list-is, list-published}
 use Rattle.calls.specs.Calls.{checkImage, listIn, listVerdict, queryVerdict, Asked, Call, asked, verdictOf}
-use Rattle.calls.specs.Causes.{Judged, ImageCause, ListCause, QueryCause}
+use Rattle.calls.specs.Causes.{Judged, Placed, ImageCause, ListCause, QueryCause}
 use Rattle.calls.specs.Causes as causes
 
 -- ---- a verdict that is accepted, or refused by one of some causes
@@ -147,48 +146,52 @@ module _ (s : List ℕ) where
 
 -- ---- the reading of an image: 1 to 13, each with its place
 
-abbrev Numbered : ℕ → ℕ → Type 0
-Numbered n place = (1 ≤ n) × (n ≤ 13) × (place < 240)
+module _ (s : List ℕ) (few : rulesOf s ≤ 96) where
+  by-rule : (b : Bool) (n i : ℕ) → T (leb 4 n && leb n 10) → i < rulesOf s → Given (Placed s) (refuse b n i)
+  by-rule b n i t h =
+      let k = and-both (leb 4 n) (leb n 10) t in
+      by-refuse b n i (λ _. causes.rule (leb→le 4 n (k .0)) (leb→le n 10 (k .1)) h few)
 
-by-read : (b : Bool) (n place : ℕ) → T (leb 1 n && leb n 13) → place < 240 → Given Numbered (refuse b n place)
-by-read b n place t h =
-    let k = and-both (leb 1 n) (leb n 13) t in
-    by-refuse b n place (λ _. (leb→le 1 n (k .0), leb→le n 13 (k .1), h))
-
-module _ (s : List ℕ) where
-  part-cause : (part : List ℕ) (atoms before place : ℕ) → place < 240 → Given Numbered (partVerdict part atoms before place)
+  part-cause : (part : List ℕ) (atoms before i : ℕ) → i < rulesOf s → Given (Placed s) (partVerdict part atoms before i)
   unfolding partVerdict
-  part-cause part atoms before place h =
-      by-then (by-read (badSize part) 4 place tt h) (λ _.
-      by-then (by-read (badKind part) 5 place tt h) (λ _.
-      by-then (by-read (badLiteral atoms part) 6 place tt h) (λ _.
-      by-then (by-read (badBody part) 7 place tt h) (λ _.
-      by-then (by-read (badEmpty part) 8 place tt h) (λ _.
-      by-read (badSeventeenth before part) 9 place tt h)))))
+  part-cause part atoms before i h =
+      by-then (by-rule (badSize part) 4 i tt h) (λ _.
+      by-then (by-rule (badKind part) 5 i tt h) (λ _.
+      by-then (by-rule (badLiteral atoms part) 6 i tt h) (λ _.
+      by-then (by-rule (badBody part) 7 i tt h) (λ _.
+      by-then (by-rule (badEmpty part) 8 i tt h) (λ _.
+      by-rule (badSeventeenth before part) 9 i tt h)))))
 
-  rule-cause : (before i : ℕ) → i < 240 → Given Numbered (ruleVerdict s before i)
+  rule-cause : (before i : ℕ) → i < rulesOf s → Given (Placed s) (ruleVerdict s before i)
   unfolding ruleVerdict
   rule-cause before i h =
       by-then (part-cause (partOf s i) (atomsOf s) before i h) (λ _.
-      by-read (badRepeat s i) 10 i tt h)
+      by-rule (badRepeat s i) 10 i tt h)
 
-  rules-cause : (before i n : ℕ) → i + n ≤ 96 → Given Numbered (rulesVerdict s before i n)
+  rules-cause : (before i n : ℕ) → i + n ≤ rulesOf s → Given (Placed s) (rulesVerdict s before i n)
   unfolding rulesVerdict
   rules-cause before i zero h = accepted
   rules-cause before i (suc n) h =
       by-then (rule-cause before i (omega arith)) (λ _.
       rules-cause (countKind (kindByte (partOf s i)) before) (suc i) n (omega arith))
 
-  pair-cause : (j : ℕ) → j < 240 → Given Numbered (pairVerdict s j)
+module _ (s : List ℕ) (few : pairsOf s ≤ 240) where
+  pair-cause : (j : ℕ) → j < pairsOf s → Given (Placed s) (pairVerdict s j)
   unfolding pairVerdict
   pair-cause j h =
-      by-then (by-read (badPair s j) 12 j tt h) (λ _.
-      by-read (badOrder s j) 13 j tt h)
+      by-then (by-refuse (badPair s j) 12 j (λ _. causes.pair (omega arith) (omega arith) h few)) (λ _.
+      by-refuse (badOrder s j) 13 j (λ _. causes.pair (omega arith) (omega arith) h few))
 
-  pairs-cause : (j n : ℕ) → j + n ≤ 240 → Given Numbered (pairsVerdict s j n)
+  pairs-cause : (j n : ℕ) → j + n ≤ pairsOf s → Given (Placed s) (pairsVerdict s j n)
   unfolding pairsVerdict
   pairs-cause j zero h = accepted
   pairs-cause j (suc n) h = by-then (pair-cause j (omega arith)) (λ _. pairs-cause (suc j) n (omega arith))
+
+module _ (s : List ℕ) where
+  by-whole : (b : Bool) (n : ℕ) → T (leb 1 n && leb n 3) → Given (Placed s) (refuse b n 0)
+  by-whole b n t =
+      let k = and-both (leb 1 n) (leb n 3) t in
+      by-refuse b n 0 (λ _. causes.whole (leb→le 1 n (k .0)) (leb→le n 3 (k .1)))
 
   counts-few : badCounts s ≡ false → (rulesOf s ≤ 96) × (pairsOf s ≤ 240)
   counts-few e =
@@ -196,23 +199,23 @@ module _ (s : List ℕ) where
       let pairs = neither-left (ltb 240 (pairsOf s)) _ (neither-right (ltb 96 (rulesOf s)) _ more) in
       (within-of 96 (rulesOf s) (neither-left (ltb 96 (rulesOf s)) _ more), within-of 240 (pairsOf s) pairs)
 
-  verdict-cause : Given Numbered (verdict s)
+  verdict-cause : Given (Placed s) (verdict s)
   unfolding verdict
   verdict-cause =
-      by-then (by-read (badLength s) 1 0 tt (omega arith)) (λ _.
-      by-then (by-read (badCounts s) 2 0 tt (omega arith)) (λ e.
+      by-then (by-whole (badLength s) 1 tt) (λ _.
+      by-then (by-whole (badCounts s) 2 tt) (λ e.
       let few = counts-few (refuse-accepted (badCounts s) 2 0 e) in
-      by-then (by-read (badDirectory s) 3 0 tt (omega arith)) (λ _.
-      by-then (rules-cause 0 0 (rulesOf s) (omega arith)) (λ _.
-      by-then (by-read (badPairs s) 11 0 tt (omega arith)) (λ _.
-      pairs-cause 0 (pairsOf s) (omega arith))))))
+      by-then (by-whole (badDirectory s) 3 tt) (λ _.
+      by-then (rules-cause s (few .0) 0 0 (rulesOf s) (omega arith)) (λ _.
+      by-then (by-refuse (badPairs s) 11 0 (λ _. causes.last-part)) (λ _.
+      pairs-cause s (few .1) 0 (pairsOf s) (omega arith))))))
 
 -- ---- each call
 
 module _ (s : List ℕ) where
-  by-verdict : {v : Verdict} → verdict s ≡ v → Given Numbered v → Given (ImageCause s) v
+  by-verdict : {v : Verdict} → verdict s ≡ v → Given (Placed s) v → Given (ImageCause s) v
   by-verdict e accepted = accepted
-  by-verdict e (refused r) = refused (causes.reading (r .0) (r .1) (r .2) e)
+  by-verdict e (refused r) = refused (causes.reading r e)
 
   check-given : Given (ImageCause s) (checkImage s)
   unfolding checkImage
@@ -222,7 +225,7 @@ module _ (s : List ℕ) where
       causes.contradictory (contradictory-sound (Π (programIn s .rules)) (T-true (contradictory (Π (programIn s .rules))) t))))
 
   check-none : checkImage s ≡ Accepted → {n place : ℕ} → ImageCause s n place → ⊥
-  check-none e (causes.reading a b c f) = not-refused (check-coherent s .0 e .0) f
+  check-none e (causes.reading r f) = not-refused (check-coherent s .0 e .0) f
   check-none e (causes.contradictory c) = check-coherent s .0 e .1 c
 
   pub check-judged : Judged (ImageCause s) (checkImage s)
@@ -278,8 +281,14 @@ abbrev pub Bounded : ℕ → ℕ → Type 0
 Bounded n place = (1 ≤ n) × (n ≤ 23) × (place < 240)
 
 module _ (s : List ℕ) where
+  placed-small : {n place : ℕ} → Placed s n place → Bounded n place
+  placed-small (causes.whole a b) = (omega arith, omega arith, omega arith)
+  placed-small (causes.rule a b c d) = (omega arith, omega arith, omega arith)
+  placed-small causes.last-part = (omega arith, omega arith, omega arith)
+  placed-small (causes.pair a b c d) = (omega arith, omega arith, omega arith)
+
   image-small : {n place : ℕ} → ImageCause s n place → Bounded n place
-  image-small (causes.reading a b c e) = (a, omega arith, c)
+  image-small (causes.reading r e) = placed-small r
   image-small (causes.contradictory c) = (omega arith, omega arith, omega arith)
 
   list-small : {room n place : ℕ} → ListCause s room n place → Bounded n place

@@ -1,9 +1,9 @@
 -- What each public call returns and what it leaves in each lent table, from the image's bytes (document 01, "Answers" and
 -- "Causes for turning an order away").
 use mathlib.Core.Path.{_≡_}
-use mathlib.Core.List.{List, [], _++_, map}
+use mathlib.Core.List.{List}
 use Prim.Native.Nat.{ℕ, _+_, _*_, _/_, _%_}
-use lib.ListN.{length, drop, replicate}
+use lib.ListN.{length}
 use lib.Dec.{ltb, leb}
 use Rattle.program.specs.Program.{Π}
 use Rattle.layout.specs.declared.Verdict.{Verdict}

@@ -7,6 +7,7 @@ use lib.ListN.{length}
 use Rattle.program.specs.Program.{Π}
 use Rattle.layout.specs.declared.Verdict.{Verdict}
 use Rattle.layout.specs.declared.Verdict.the-variants.{Accepted, Refused}
+use Rattle.layout.specs.Layout.{rulesOf, pairsOf}
 use Rattle.layout.specs.Causes.{verdict}
 use Rattle.layout.specs.Reading.{programIn}
 use Rattle.derivation.specs.Derivation.{Contradictory}
@@ -19,10 +20,16 @@ pub data Judged (Cause : (number place : ℕ) → Type 0) : Verdict → Type 0 w
   refused : {number place : ℕ} → Cause number place → Judged Cause (Refused number place)
 
 module _ (image : List ℕ) where
+  -- 1 to 13: "Place is the rule or pair number for 4-10, 12 and 13, else 0."
+  pub data Placed : (number place : ℕ) → Type 0 where
+    whole : {number : ℕ} → 1 ≤ number → number ≤ 3 → Placed number 0
+    rule : {number i : ℕ} → 4 ≤ number → number ≤ 10 → i < rulesOf image → rulesOf image ≤ 96 → Placed number i
+    last-part : Placed 11 0
+    pair : {number j : ℕ} → 12 ≤ number → number ≤ 13 → j < pairsOf image → pairsOf image ≤ 240 → Placed number j
+
   pub data ImageCause : (number place : ℕ) → Type 0 where
-    -- 1 to 13: what the reading of an image refuses; a place is the number of a rule or of one of 240 pairs, else 0
-    reading : {number place : ℕ} → 1 ≤ number → number ≤ 13 → place < 240 → verdict image ≡ Refused number place
-        → ImageCause number place
+    -- what the reading of an image refuses
+    reading : {number place : ℕ} → Placed number place → verdict image ≡ Refused number place → ImageCause number place
     -- "Π contradictory"
     contradictory : Contradictory (Π (programIn image .rules)) → ImageCause 14 0
 

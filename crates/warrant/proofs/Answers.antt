@@ -2,7 +2,7 @@
 use mathlib.Core.Path.{_≡_, refl, sym, ap, _∙_, subst, subst₂}
 use mathlib.Core.List.{List, map}
 use mathlib.Core.Logic.{_↔_}
-use Prim.Native.Nat.{ℕ, _≤_}
+use Prim.Native.Nat.{ℕ}
 use native.Mathlib.Omega.{arith}
 use lib.ListN.{length, replicate}
 use Rattle.program.specs.Program.{Program}
@@ -19,7 +19,7 @@ use Rattle.tree.specs.Entries.{Entry}
 use Rattle.answer.specs.declared.Answer.{Answer}
 use Rattle.answer.specs.declared.Answer.the-variants.{Yes, No, Undecided, Unknown, Unfinished, Refused}
 use Rattle.answer.specs.Forest.{ForestIn, EntriesIn}
-use Rattle.answer.specs.Answer.{nodeCount, forestEntries, tests, answer, codeOf, nodesOf}
+use Rattle.answer.specs.Answer.{nodeCount, tests, answer, codeOf, nodesOf}
 use Rattle.answer.proofs.Forests.{forest-published, count-published, entries-published}
 use Rattle.answer.proofs.Answers.{entries-count, answer-unknown, answer-unfinished, answer-nodes-finished}
 use Rattle.answer.proofs.Answers.{answer-nodes-unfinished, answer-nodes-unknown, answer-not-refused}

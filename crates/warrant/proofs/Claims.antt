@@ -7,7 +7,6 @@ use native.Mathlib.Omega.{arith}
 use Rattle.layout.specs.declared.Verdict.the-variants.{Accepted}
 use Rattle.layout.specs.Reading.{programIn}
 use Rattle.defeat.specs.OfProgram.{Exclude}
-use Rattle.tree.specs.Forest.{Forest}
 use Rattle.answer.specs.Forest.{ForestIn}
 use Rattle.answer.specs.Answer.{forest, tests}
 use Rattle.answer.proofs.Forests.{forest-published}

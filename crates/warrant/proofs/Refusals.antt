@@ -1,8 +1,8 @@
 -- Demand 1: tables keep their length, a call is refused by a listed cause that applies, hands it back, and leaves its tables.
 use mathlib.Core.Path.{_≡_, refl, sym, ap, _∙_, subst}
-use mathlib.Core.List.{List, map}
+use mathlib.Core.List.{List}
 use mathlib.Core.Logic.{_↔_}
-use Prim.Native.Nat.{ℕ, zero, suc, _^_, _≤_, _<_, _/_}
+use Prim.Native.Nat.{ℕ, zero, suc, _≤_, _<_}
 use native.Mathlib.Nat.{pow-le-pow-right}
 use native.Mathlib.Omega.{arith}
 use lib.ListN.{length}
@@ -20,8 +20,8 @@ use Rattle.answer.proofs.Answers.{answer-not-refused}
 use Rattle.nodes.specs.declared.Node.{Node}
 use Rattle.calls.specs.declared.Listed.the-variants as lists
 use Rattle.calls.specs.Calls.{checkImage, checkCall, verdictNumber, refusalNumber, listIn, listVerdict, listedBy, listed}
-use Rattle.calls.specs.Calls.{listedNumber, listTable, listCall, unlessRefused, front, queryVerdict, queried, queryArguments}
-use Rattle.calls.specs.Calls.{queryColumn, queryNodes, columnAfter, nodeOf, hostCall, treesCall, answeredNumber, Carries}
+use Rattle.calls.specs.Calls.{listedNumber, listTable, listCall, unlessRefused, front, queryVerdict, queryArguments}
+use Rattle.calls.specs.Calls.{queryColumn, queryNodes, columnAfter, nodeOf, treesCall, answeredNumber, Carries}
 use Rattle.calls.specs.Calls.{Call, query, host, trees, asked, verdictOf, codeFrom, HandsBack}
 use Rattle.calls.proofs.Refusals.{Bounded, check-judged, list-judged, call-judged, check-refused, list-refused, query-refused}
 use Rattle.calls.proofs.Refusals.{check-accepted, list-accepted}
