@@ -3,130 +3,27 @@
  *
  *     host IMAGE LITERAL [BUDGET]
  *
- * It prints the answer with its number of nodes and what it means. The exit status is 0 for an answer, 1 for a refusal and
- * 2 where there was nothing to ask, so that no script takes a refusal for an answer.
+ * It prints the answer with its number of nodes and what it means. The exit status is 0 for an answer, 1 for a refusal, 2
+ * where there was nothing to ask, and 3 where the image could not be read or the answer not be written.
  *
- *     rt staticlib host
- *     cc -std=c99 -Iinclude examples/host.c target/staticlib/libhost.a -o target/host
+ *     rt staticlib foqtirel
+ *     cc -std=c99 -Iinclude examples/host.c target/staticlib/libfoqtirel.a -o target/host
  */
-#include <ctype.h>
-#include <errno.h>
-#include <stdio.h>
-#include <stdlib.h>
-
-#include "foqtirel.h"
-
-/* One byte more than the longest image: a file that is too long is handed over too long, and refused. */
-#define ROOM (FOQTIREL_MOST_IMAGE + 1u)
-
-struct word {
-    uint32_t number;
-    const char *name;
-    const char *meaning;
-};
-
-static const struct word answers[] = {
-    {FOQTIREL_YES, "YES", "the literal is warranted"},
-    {FOQTIREL_NO, "NO", "the complement is warranted"},
-    {FOQTIREL_UNDECIDED, "UNDECIDED", "neither the literal nor its complement is warranted"},
-    {FOQTIREL_UNKNOWN, "UNKNOWN", "no rule mentions the atom"},
-    {FOQTIREL_UNFINISHED, "UNFINISHED", "the trees have more nodes than the budget"},
-};
-
-static const struct word refusals[] = {
-    {FOQTIREL_IMAGE_LENGTH, "refused", "an image has 12 to 1,836 bytes"},
-    {FOQTIREL_HEADER, "refused", "a count is over its limit, or bytes 6 and 7 are not zero"},
-    {FOQTIREL_DIRECTORY, "refused", "the directory does not fit the image"},
-    {FOQTIREL_RULE_LENGTH, "refused", "a rule has 2 to 10 bytes"},
-    {FOQTIREL_RULE_KIND, "refused", "a rule is strict (0) or defeasible (1)"},
-    {FOQTIREL_LITERAL_RANGE, "refused", "a rule has a literal of an atom that is not there"},
-    {FOQTIREL_BODY_ORDER, "refused", "a body does not ascend"},
-    {FOQTIREL_DEFEASIBLE_WITHOUT_BODY, "refused", "a defeasible rule has no body"},
-    {FOQTIREL_TOO_MANY_DEFEASIBLE, "refused", "more than 16 rules are defeasible"},
-    {FOQTIREL_REPEATED_RULE, "refused", "a rule stands there twice"},
-    {FOQTIREL_LAST_PART_LENGTH, "refused", "the last part does not hold the pairs"},
-    {FOQTIREL_PAIR_NAMES, "refused", "a pair is not of two defeasible rules"},
-    {FOQTIREL_PAIR_ORDER, "refused", "the pairs do not ascend"},
-    {FOQTIREL_STRICT_CONTRADICTION, "refused", "the strict rules contradict each other"},
-    {FOQTIREL_QUERY_LITERAL, "refused", "a literal is below 128"},
-    {FOQTIREL_BUDGET, "refused", "a budget is at most 4,096"},
-    {FOQTIREL_ARGUMENT_TABLE, "refused", "the program has more than 4,096 arguments"},
-};
-
-static const struct word *find(const struct word *words, size_t count, uint32_t number)
-{
-    size_t i;
-
-    for (i = 0; i < count; i++) {
-        if (words[i].number == number) {
-            return &words[i];
-        }
-    }
-    return NULL;
-}
-
-/* A number without sign that fits 32 bits: 4,294,967,296 must not pass for 0. */
-static int read_number(const char *text, uint32_t *number)
-{
-    unsigned long long value;
-    char *end;
-
-    if (!isdigit((unsigned char)text[0])) {
-        return 0;
-    }
-    errno = 0;
-    value = strtoull(text, &end, 10);
-    if (errno != 0 || *end != '\0' || value > UINT32_MAX) {
-        return 0;
-    }
-    *number = (uint32_t)value;
-    return 1;
-}
-
-static int read_image(const char *path, uint8_t *image, size_t *length)
-{
-    FILE *file = fopen(path, "rb");
-    int sound;
-
-    if (file == NULL) {
-        return 0;
-    }
-    *length = fread(image, 1, ROOM, file);
-    sound = !ferror(file);
-    fclose(file);
-    return sound;
-}
-
-static int print_result(uint32_t result)
-{
-    int refused = FOQTIREL_REFUSED(result);
-    uint32_t number = refused ? result : FOQTIREL_CODE(result);
-    uint32_t shown = refused ? result : FOQTIREL_NODES(result);
-    const struct word *word = refused ? find(refusals, sizeof refusals / sizeof refusals[0], number)
-                                      : find(answers, sizeof answers / sizeof answers[0], number);
-
-    if (word == NULL) {
-        fprintf(stderr, "a result that the header does not name: %lu\n", (unsigned long)result);
-        return 2;
-    }
-    printf("%s %lu: %s\n", word->name, (unsigned long)shown, word->meaning);
-    return refused ? 1 : 0;
-}
+#include "asking.h"
 
 int main(int count, char **words)
 {
-    static uint8_t image[ROOM];
-    size_t length = 0;
-    uint32_t literal = 0;
-    uint32_t budget = FOQTIREL_MOST_NODES;
+    static struct question asked;
+    uint32_t result;
 
-    if (count < 3 || count > 4 || !read_number(words[2], &literal) || (count == 4 && !read_number(words[3], &budget))) {
-        fprintf(stderr, "usage: host IMAGE LITERAL [BUDGET]\n");
-        return 2;
+    read_question("host", count, words, &asked);
+    result = foqtirel_query(asked.image, asked.length, asked.literal, asked.budget);
+    if (FOQTIREL_REFUSED(result)) {
+        const struct word *word = find(refusals, sizeof refusals / sizeof refusals[0], result);
+
+        printf("%s %lu: %s\n", word->name, (unsigned long)result, word->meaning);
+        return end(REFUSED);
     }
-    if (!read_image(words[1], image, &length)) {
-        fprintf(stderr, "cannot read %s\n", words[1]);
-        return 2;
-    }
-    return print_result(foqtirel_query(image, length, literal, budget));
+    print_answer(FOQTIREL_CODE(result), FOQTIREL_NODES(result));
+    return end(ANSWERED);
 }

@@ -1,10 +1,15 @@
 /*
- * Foqtirel: is a literal warranted by the program of an image?
+ * Foqtirel: checks the program of an image, lists its arguments, and says whether it warrants a literal, with the literal's
+ * dialectical trees or without.
  *
- * Link with libhost.a, which `rt staticlib host` writes to target/staticlib/, for x86-64 and the System V calling
+ * Link with libfoqtirel.a, which `rt staticlib foqtirel` writes to target/staticlib/, for x86-64 and the System V calling
  * convention. It needs nothing else but the memory functions of a C library: memset, memcpy, memmove, memcmp.
  *
- * docs/IMAGE.md has the image's format, docs/GUARANTEES.md what is proved of the call.
+ * Its code is position independent, so that a shared library can be made of it, which offers the four calls:
+ *
+ *     cc -shared -Wl,--whole-archive target/staticlib/libfoqtirel.a -Wl,--no-whole-archive -o target/libfoqtirel.so
+ *
+ * docs/IMAGE.md has the image's format, docs/GUARANTEES.md what is proved of the calls.
  */
 #ifndef FOQTIREL_H
 #define FOQTIREL_H
@@ -26,30 +31,64 @@ extern "C" {
 /* The greatest budget, in nodes of the literal's dialectical trees. */
 #define FOQTIREL_MOST_NODES 4096u
 
+/* Entries of foqtirel_query's own argument table: in one of so many, foqtirel_trees gives the same answers and refusals. */
+#define FOQTIREL_ARGUMENTS 4096u
+
+/* An argument is mask * 128 + literal: bit b of the mask is set if it uses the defeasible rule number b among those. */
+#define FOQTIREL_MASK(argument) ((uint32_t)(argument) >> 7)
+#define FOQTIREL_LITERAL(argument) ((uint32_t)(argument) & 127u)
+
+/* A node of a literal's trees. They stand in preorder; a call may write the padding, too. */
+struct foqtirel_node {
+    uint32_t argument; /* its argument's place in the argument list */
+    uint32_t parent;   /* its parent's number among the nodes; a root has its own */
+    uint8_t kind;
+    uint8_t mark;
+};
+
+/* The kinds of a node: the root of a tree, or a defeater of the node's parent. */
+#define FOQTIREL_ROOT 0u
+#define FOQTIREL_PROPER 1u
+#define FOQTIREL_BLOCKING 2u
+
+/* The marks of a node, U and D. */
+#define FOQTIREL_UNDEFEATED 1u
+#define FOQTIREL_DEFEATED 2u
+
 /*
- * Bytes of stack that a call needs: it keeps all its tables there, and walks down the lines of the trees.
+ * Bytes of stack that a call needs: it keeps all its own tables there, and walks down the lines of the trees.
  *
- * FOQTIREL_STACK_MOST bytes are enough for every image, literal and budget. FOQTIREL_STACK_12_RULES bytes are enough for
- * a program with at most 12 defeasible rules, as long as no line of the literal's trees has more than
+ * FOQTIREL_STACK_MOST bytes are enough for every call, image, literal and budget. FOQTIREL_STACK_12_RULES bytes are enough
+ * for a program with at most 12 defeasible rules, as long as no line of the literal's trees has more than
  * FOQTIREL_STACK_12_LINE arguments; a budget of no more than that makes sure of it. One argument more on a line takes at
- * most FOQTIREL_STACK_LEVEL bytes; the lines are counted in the figures above. These figures are measured, not proved:
- * the tests run the call on threads with such stacks, and found 148 KiB enough for up to 12 defeasible rules and 1,172 KiB
- * for 16, with short lines, and 252 bytes for each argument more on a line. A smaller stack is overrun, as it would be by
- * any C function.
+ * most FOQTIREL_STACK_LEVEL bytes; the lines are counted in the figures above. foqtirel_check and foqtirel_list grow no
+ * trees: FOQTIREL_STACK_CHECK bytes are enough for every check, FOQTIREL_STACK_LIST bytes for every list, and
+ * FOQTIREL_STACK_LIST_12 bytes for one of a program with at most 12 defeasible rules.
+ *
+ * These figures are measured, not proved: the tests run the calls on threads with such stacks. For programs with up to 12
+ * defeasible rules and with 16 of them they found enough, with short lines: 76 and 1,100 KiB for foqtirel_list, 132 and
+ * 1,156 KiB for foqtirel_trees, 196 and 1,220 KiB for foqtirel_query; and 252 bytes for each argument more on a line. For
+ * foqtirel_check 16 KiB are enough, and no thread has less. A smaller stack is overrun, as it would be by any C function.
  */
 #define FOQTIREL_STACK_MOST (4u * 1024u * 1024u)
 #define FOQTIREL_STACK_12_RULES (512u * 1024u)
 #define FOQTIREL_STACK_12_LINE 512u
 #define FOQTIREL_STACK_LEVEL 512u
+#define FOQTIREL_STACK_CHECK (16u * 1024u)
+#define FOQTIREL_STACK_LIST (2u * 1024u * 1024u)
+#define FOQTIREL_STACK_LIST_12 (128u * 1024u)
 
-/* The answers: what FOQTIREL_CODE gives for a result that is no refusal. */
+/* The answers: what FOQTIREL_CODE or FOQTIREL_CODE64 gives for a result that is no refusal. */
 #define FOQTIREL_YES 1u        /* the literal is warranted */
 #define FOQTIREL_NO 2u         /* its complement is warranted */
 #define FOQTIREL_UNDECIDED 3u  /* neither is */
 #define FOQTIREL_UNKNOWN 4u    /* its atom stands in no rule; 0 nodes */
 #define FOQTIREL_UNFINISHED 5u /* the trees have more nodes than the budget; nodes = budget */
 
-/* The refusals: the first cause that applies, in this order (4 to 10 for each rule in turn, 12 and 13 for each pair). */
+/*
+ * The refusals: the first cause that applies, in this order (4 to 10 for each rule in turn, 12 and 13 for each pair). The
+ * first 14 are about the image and can come from every call; the others only from those that are named.
+ */
 #define FOQTIREL_IMAGE_LENGTH 1u            /* image under 12 or over 1,836 bytes */
 #define FOQTIREL_HEADER 2u                  /* a count over its limit, or bytes 6 and 7 not zero */
 #define FOQTIREL_DIRECTORY 3u               /* the directory doesn't fit the image, or an offset is wrong */
@@ -64,32 +103,93 @@ extern "C" {
 #define FOQTIREL_PAIR_NAMES 12u             /* a pair of a rule with itself, or with an absent or a strict one */
 #define FOQTIREL_PAIR_ORDER 13u             /* pairs that don't ascend strictly */
 #define FOQTIREL_STRICT_CONTRADICTION 14u   /* the facts and strict rules contradict each other */
-#define FOQTIREL_QUERY_LITERAL 20u          /* the literal asked about is 128 or more */
-#define FOQTIREL_BUDGET 21u                 /* the budget is over 4,096 */
-#define FOQTIREL_NODE_TABLE 22u             /* node table shorter than the budget: never given by foqtirel_query */
-#define FOQTIREL_ARGUMENT_TABLE 23u         /* the program has more than 4,096 arguments */
+#define FOQTIREL_QUERY_LITERAL 20u          /* trees, query: the literal asked about is 128 or more */
+#define FOQTIREL_BUDGET 21u                 /* trees, query: the budget is over 4,096 */
+#define FOQTIREL_NODE_TABLE 22u             /* trees: the node table has fewer entries than the budget */
+#define FOQTIREL_ARGUMENT_TABLE 23u         /* list, trees, query: more arguments than the argument table has entries */
 
-/* A result taken apart. A refused result has code 0, so a refusal is never taken for an answer. */
+/* A result of foqtirel_query taken apart. A refused result has code 0, so a refusal is never taken for an answer. */
 #define FOQTIREL_REFUSED(result) ((uint32_t)(result) < 65536u)
 #define FOQTIREL_CODE(result) ((uint32_t)(result) >> 16)
 #define FOQTIREL_NODES(result) ((uint32_t)(result) & 65535u)
 
 /*
- * Answers whether the program in an image warrants a literal.
+ * A result of foqtirel_check, foqtirel_list or foqtirel_trees taken apart: whether it is a refusal; of a refusal its number
+ * and place; of a list that is not refused the number of arguments; of trees that are not refused the answer's code and its
+ * number of nodes. Again a refused result has code 0. A number of 32 bits, such as a result of foqtirel_query, does not
+ * compile here: that call has its refusals elsewhere.
+ */
+#define FOQTIREL_REFUSED64(result) (FOQTIREL_64_BITS(result) >> 32 != 0u)
+#define FOQTIREL_NUMBER64(result) ((uint32_t)(FOQTIREL_64_BITS(result) >> 32))
+#define FOQTIREL_PLACE64(result) ((uint32_t)FOQTIREL_64_BITS(result))
+#define FOQTIREL_COUNT64(result) ((uint32_t)FOQTIREL_64_BITS(result))
+#define FOQTIREL_CODE64(result) ((uint32_t)FOQTIREL_64_BITS(result) >> 16)
+#define FOQTIREL_NODES64(result) ((uint32_t)FOQTIREL_64_BITS(result) & 65535u)
+
+/* The number itself, or an array of -1 entries, which no compiler takes. */
+#define FOQTIREL_64_BITS(result) ((uint64_t)(result) + 0u * sizeof(char[sizeof(result) == sizeof(uint64_t) ? 1 : -1]))
+
+/*
+ * Of all four calls:
  *
  *   image, length   the image's bytes. They stay the caller's, are only read, and have to stay as they are during the call.
  *                   Any bytes will do: what isn't a sound image is refused. NULL with length 0 is an empty image, refused
  *                   with FOQTIREL_IMAGE_LENGTH. With any other length, image has to point to that many readable bytes.
- *   literal         the literal asked about, below 128. One whose atom stands in no rule is answered UNKNOWN.
- *   budget          the most nodes that the literal's trees may have, 0 to 4,096.
+ *   a table, room   what a call writes to: a table of that many entries, with any contents. NULL with 0 entries is a table
+ *                   without entries. Tables must not overlap each other or the image.
+ *
+ * A refusal leaves every table as it was. After any other result the entries that the call is said to write have the
+ * contents it is said to write, and all others keep theirs.
+ *
+ * The result, and what is written, depend on the parameters and the image's bytes alone. A call keeps nothing, allocates
+ * nothing, has no global data and takes no locks, so it may run on any number of threads at once, on one image too, each
+ * with tables of its own, and in a signal handler with enough stack. It ends on every input.
+ */
+
+/*
+ * Checks an image. Returns 0 if it is sound and its facts and strict rules don't contradict each other, or a refusal:
+ * number * 2^32 + place, where place is the rule's number for 4 to 10, the pair's for 12 and 13, and 0 for the others. See
+ * FOQTIREL_REFUSED64, FOQTIREL_NUMBER64 and FOQTIREL_PLACE64.
+ */
+uint64_t foqtirel_check(const uint8_t *image, size_t length);
+
+/*
+ * Lists the arguments of the program in an image.
+ *
+ *   arguments, room   the argument table. The list is written to its front: each argument once, as mask * 128 + literal,
+ *                     ascending (see FOQTIREL_MASK and FOQTIREL_LITERAL). If it has too few entries for that, the call is
+ *                     refused with FOQTIREL_ARGUMENT_TABLE.
+ *
+ * Returns how many arguments there are, or a refusal as foqtirel_check does. See FOQTIREL_REFUSED64 and FOQTIREL_COUNT64.
+ */
+uint64_t foqtirel_list(const uint8_t *image, size_t length, uint32_t *arguments, size_t room);
+
+/*
+ * Answers whether the program in an image warrants a literal, and gives the trees that the answer rests on.
+ *
+ *   literal            the literal asked about, below 128. One whose atom stands in no rule is answered UNKNOWN.
+ *   budget             the most nodes that the literal's trees may have, 0 to 4,096.
+ *   arguments, room    the argument table. After every answer it begins with the list of foqtirel_list. If it has too few
+ *                      entries for that, the call is refused with FOQTIREL_ARGUMENT_TABLE.
+ *   nodes, node_room   the node table, with at least as many entries as the budget; with fewer the call is refused with
+ *                      FOQTIREL_NODE_TABLE. After YES, NO and UNDECIDED the trees stand at its front in preorder: the tree
+ *                      of each argument for the literal in the order of the list, then those for its complement. After
+ *                      UNFINISHED the first budget entries are zero. After UNKNOWN nothing is written to it.
+ *
+ * Returns code * 65,536 + nodes, or a refusal as foqtirel_check does: see FOQTIREL_REFUSED64, FOQTIREL_CODE64 and
+ * FOQTIREL_NODES64. With YES, NO and UNDECIDED, nodes is the number of nodes of all the literal's and its complement's
+ * trees.
+ */
+uint64_t foqtirel_trees(const uint8_t *image, size_t length, uint32_t literal, uint32_t budget, uint32_t *arguments,
+                        size_t room, struct foqtirel_node *nodes, size_t node_room);
+
+/*
+ * Answers as foqtirel_trees does, with tables of its own, which it doesn't give back.
+ *
+ *   literal, budget   as for foqtirel_trees.
  *
  * Returns code * 65,536 + nodes, or the bare number of a refusal, which is below 65,536: see FOQTIREL_REFUSED,
- * FOQTIREL_CODE and FOQTIREL_NODES. With YES, NO and UNDECIDED, nodes is the number of nodes of all the literal's and its
- * complement's trees.
- *
- * The result depends on the arguments and the image's bytes alone. The call keeps nothing, allocates nothing, has no
- * global data and takes no locks, so it may run on any number of threads at once, on one image too, and in a signal
- * handler with enough stack. It ends on every input.
+ * FOQTIREL_CODE and FOQTIREL_NODES.
  */
 uint32_t foqtirel_query(const uint8_t *image, size_t length, uint32_t literal, uint32_t budget);
 

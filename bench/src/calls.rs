@@ -1,7 +1,9 @@
 //! The calls of both sides, each with one number as its result, so that the two can be held against each other.
 
-use crate::probe;
+use foqtirel_binding::{self as library, Node};
 use foqtirel_tests::reference::{self, host_number, Analysis, NodeEntry, Refusal, MOST_NODES};
+
+const BUDGET: u32 = MOST_NODES as u32;
 
 #[derive(Clone, Copy)]
 pub enum Call {
@@ -38,7 +40,7 @@ impl Call {
 /// What a caller lends.
 pub struct Tables {
     arguments: Vec<u32>,
-    nodes: Vec<probe::Node>,
+    nodes: Vec<Node>,
     entries: Vec<NodeEntry>,
 }
 
@@ -46,36 +48,38 @@ impl Tables {
     pub fn new() -> Tables {
         Tables {
             arguments: vec![0; MOST_NODES],
-            nodes: vec![probe::Node::default(); MOST_NODES],
+            nodes: vec![Node::default(); MOST_NODES],
             entries: vec![NodeEntry::default(); MOST_NODES],
         }
     }
 }
 
 pub fn proved(call: Call, image: &[u8], literal: u32, lent: &mut Tables) -> u64 {
+    let (arguments, nodes) = (&mut lent.arguments, &mut lent.nodes);
     match call {
-        Call::Check => probe::check(image) >> 32,
-        Call::List => probe::list(image, &mut lent.arguments),
-        Call::Query => probe::query(image, literal, &mut lent.arguments, &mut lent.nodes),
-        Call::Host => probe::host_query(image, literal),
-        Call::Advise => sum(image, |literal| probe::host_query(image, literal)),
+        Call::Check => library::check(image) >> 32,
+        Call::List => library::list(image, arguments),
+        Call::Query => library::trees(image, literal, BUDGET, arguments, nodes),
+        Call::Host => library::query(image, literal, BUDGET).into(),
+        Call::Advise => sum(image, |literal| {
+            library::query(image, literal, BUDGET).into()
+        }),
     }
 }
 
 /// The reference advises from one reading of the image, as it would for a caller with many questions.
 pub fn plain(call: Call, image: &[u8], literal: u32, lent: &mut Tables) -> u64 {
-    let budget = MOST_NODES as u32;
     let (arguments, entries) = (&mut lent.arguments, &mut lent.entries);
     match call {
         Call::Check => reference::check(image).map_or_else(number, |()| 0),
         Call::List => reference::list(image, arguments).map_or_else(number, |count| count as u64),
         Call::Query => {
-            let answer = reference::query(image, literal, budget, arguments, entries);
+            let answer = reference::query(image, literal, BUDGET, arguments, entries);
             host_number(answer).into()
         }
-        Call::Host => reference::host_call(image, literal, budget).into(),
+        Call::Host => reference::host_call(image, literal, BUDGET).into(),
         Call::Advise => match Analysis::of_image(image) {
-            Ok(analysis) => sum(image, |literal| analysis.host_call(literal, budget).into()),
+            Ok(analysis) => sum(image, |literal| analysis.host_call(literal, BUDGET).into()),
             Err(refusal) => sum(image, |_| number(refusal)),
         },
     }

@@ -6,10 +6,8 @@
 mod calls;
 mod cases;
 mod child;
-mod closing;
 mod images;
 mod measuring;
-mod probe;
 mod table;
 mod timing;
 
@@ -29,8 +27,6 @@ fn main() {
     }
     // Read before anything is measured, so that a wrong name shows at once, and --out may name the same file.
     let before = compare.map(|file| table::read(file));
-    closing::report();
-    println!();
     let rows = measuring::table(&only);
     if let Some(file) = out {
         table::write(file, &rows);

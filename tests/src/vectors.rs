@@ -5,6 +5,10 @@ use std::path::{Path, PathBuf};
 
 use crate::reference::NodeEntry;
 
+/// Vectors and literals with exactly as many nodes as the greatest budget, with one more, and with
+/// the longest line.
+pub const EXTREMES: [(&str, u32); 3] = [("n4096", 20), ("n4097", 28), ("deep180", 22)];
+
 pub fn directory() -> PathBuf {
     Path::new(env!("CARGO_MANIFEST_DIR")).join("vectors")
 }

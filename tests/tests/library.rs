@@ -1,40 +1,41 @@
 //! The proved calls on the vectors, the fittings and every cause of a refusal in its order.
-#![cfg(probe)]
 
+use std::collections::BTreeSet;
+use std::ptr::{null, null_mut};
 use std::thread;
 
+use foqtirel_binding::{
+    answered, answered_with_trees, check, granted, list, query, raw, trees, Answer, Node, Refusal,
+};
 use foqtirel_tests::fittings::{F, FITTINGS};
-use foqtirel_tests::generator::Description;
-use foqtirel_tests::native::{self, Node};
-use foqtirel_tests::reference::{Cause, Code, NodeEntry};
+use foqtirel_tests::generator::{damaged, Description};
+use foqtirel_tests::reference::{self, Analysis, Cause, Code, NodeEntry};
 use foqtirel_tests::vectors;
 
 const TABLE: usize = 4096;
+const SEED: u64 = 11;
+const DAMAGED: usize = 3_000;
 
 fn image(program: &str) -> Vec<u8> {
     Description::parse(program).expect("a program").image()
 }
 
-/// Two calls that give a literal's answer: code and nodes, or number and place.
-type Call = fn(&[u8], u32, u32) -> Result<(u32, u32), (u32, u32)>;
+/// A literal's answer, by one of the two calls that give it.
+type Call = fn(&[u8], u32, u32) -> Result<Answer, Refusal>;
 
-fn by_query(image: &[u8], literal: u32, budget: u32) -> Result<(u32, u32), (u32, u32)> {
+fn by_trees(image: &[u8], literal: u32, budget: u32) -> Result<Answer, Refusal> {
     let mut arguments = vec![0; TABLE];
     let mut nodes = vec![Node::default(); TABLE];
-    let given = native::query(image, literal, budget, &mut arguments, &mut nodes);
-    match (given >> 32) as u32 {
-        0 => Ok(((given >> 16) as u32, given as u32 & 65_535)),
-        number => Err((number, given as u32)),
-    }
+    answered_with_trees(trees(image, literal, budget, &mut arguments, &mut nodes))
 }
 
-/// The C call names no place, so 0 stands for it.
-fn by_host(image: &[u8], literal: u32, budget: u32) -> Result<(u32, u32), (u32, u32)> {
-    let given = native::host_query(image, literal, budget);
-    match given >> 16 {
-        0 => Err((given, 0)),
-        code => Ok((code, given & 65_535)),
-    }
+/// This call names no place, so 0 stands for it.
+fn by_query(image: &[u8], literal: u32, budget: u32) -> Result<Answer, Refusal> {
+    answered(query(image, literal, budget)).map_err(|number| refusal(number, 0))
+}
+
+fn refusal(number: u32, place: u32) -> Refusal {
+    Refusal { number, place }
 }
 
 fn word(code: u32) -> &'static str {
@@ -54,15 +55,15 @@ fn word(code: u32) -> &'static str {
 /// What `advise` prints, by the list call and one of the calls that answer.
 fn advise(image: &[u8], call: Call) -> String {
     let mut arguments = vec![0; TABLE];
-    let given = native::list(image, &mut arguments);
-    if given >> 32 != 0 {
-        return format!("refused {} {}\n", given >> 32, given as u32);
-    }
-    let mut text = format!("arguments {given}\n");
+    let count = match granted(list(image, &mut arguments)) {
+        Ok(count) => count,
+        Err(Refusal { number, place }) => return format!("refused {number} {place}\n"),
+    };
+    let mut text = format!("arguments {count}\n");
     for literal in 0..2 * u32::from(image[0]) {
         match call(image, literal, 4096) {
-            Ok((code, nodes)) => text += &format!("{literal} {} {nodes}\n", word(code)),
-            Err((number, place)) => text += &format!("{literal} refused {number} {place}\n"),
+            Ok(Answer { code, nodes }) => text += &format!("{literal} {} {nodes}\n", word(code)),
+            Err(refusal) => text += &format!("{literal} {refusal:?}\n"),
         }
     }
     text
@@ -72,8 +73,8 @@ fn advise(image: &[u8], call: Call) -> String {
 fn every_vector_is_advised_as_written() {
     for name in vectors::names("img") {
         let image = vectors::image(&name);
+        assert_eq!(advise(&image, by_trees), vectors::advice(&name), "{name}");
         assert_eq!(advise(&image, by_query), vectors::advice(&name), "{name}");
-        assert_eq!(advise(&image, by_host), vectors::advice(&name), "{name}");
     }
 }
 
@@ -90,8 +91,12 @@ fn refused_vectors_are_refused_by_every_call() {
         let number: u32 = number.parse().expect("a number");
         let place: u32 = place.parse().expect("a place");
         let image = vectors::image(&name);
-        assert_eq!(by_query(&image, 0, 4096), Err((number, place)), "{name}");
-        assert_eq!(by_host(&image, 0, 4096), Err((number, 0)), "{name}");
+        assert_eq!(
+            by_trees(&image, 0, 4096),
+            Err(refusal(number, place)),
+            "{name}"
+        );
+        assert_eq!(by_query(&image, 0, 4096), Err(refusal(number, 0)), "{name}");
         refused += 1;
     }
     assert!(refused >= 3, "only {refused} vectors are refused");
@@ -110,7 +115,7 @@ fn whole_forests_are_as_written() {
             let (mut arguments, mut nodes) = tables(forest.list.len() + more, count + more);
             let (old_arguments, old_nodes) = (arguments.clone(), nodes.clone());
             let budget = count as u32;
-            let given = native::query(&image, forest.literal, budget, &mut arguments, &mut nodes);
+            let given = trees(&image, forest.literal, budget, &mut arguments, &mut nodes);
             let wanted = u64::from(forest.code) * 65_536 + count as u64;
             assert_eq!(given, wanted, "{about}");
             let listed = forest.list.len();
@@ -126,9 +131,12 @@ fn whole_forests_are_as_written() {
 #[test]
 fn the_twelve_fittings_by_both_calls() {
     for (name, program, literal, budget, code, nodes) in FITTINGS {
-        let wanted = Ok((code.number(), nodes as u32));
+        let wanted = Ok(Answer {
+            code: code.number(),
+            nodes: nodes as u32,
+        });
+        assert_eq!(by_trees(&image(program), literal, budget), wanted, "{name}");
         assert_eq!(by_query(&image(program), literal, budget), wanted, "{name}");
-        assert_eq!(by_host(&image(program), literal, budget), wanted, "{name}");
     }
 }
 
@@ -149,9 +157,8 @@ fn tables(arguments: usize, nodes: usize) -> (Vec<u32>, Vec<Node>) {
 #[track_caller]
 fn assert_refused(image: &[u8], literal: u32, budget: u32, lengths: (usize, usize), cause: Cause) {
     let (mut arguments, mut nodes) = tables(lengths.0, lengths.1);
-    let given = native::query(image, literal, budget, &mut arguments, &mut nodes);
-    let told = ((given >> 32) as u32, given as u32);
-    assert_eq!(told, (cause.number(), 0), "number and place");
+    let given = trees(image, literal, budget, &mut arguments, &mut nodes);
+    assert_eq!(granted(given), Err(refusal(cause.number(), 0)));
     let before = tables(lengths.0, lengths.1);
     assert_eq!(arguments, before.0, "the argument table was touched");
     assert_eq!(nodes, before.1, "the node table was touched");
@@ -163,12 +170,16 @@ fn each_cause_alone() {
     let f = image(F);
     for literal in [128, 129, 130, 255, 256, 258, 65_536, 1 << 31, u32::MAX] {
         assert_refused(&f, literal, 3, (3, 3), Cause::QueryLiteral);
-        assert_eq!(by_host(&f, literal, 4096), Err((20, 0)), "{literal}");
+        assert_eq!(
+            by_query(&f, literal, 4096),
+            Err(refusal(20, 0)),
+            "{literal}"
+        );
     }
     for budget in [4097, 65_535, 65_536, 65_539, 1 << 31, u32::MAX] {
         assert_refused(&f, 2, budget, (3, 5000), Cause::Budget);
         assert_refused(&f, 2, budget, (3, 70_000), Cause::Budget);
-        assert_eq!(by_host(&f, 2, budget), Err((21, 0)), "{budget}");
+        assert_eq!(by_query(&f, 2, budget), Err(refusal(21, 0)), "{budget}");
     }
     for (budget, length) in [(1, 0), (3, 2), (4, 3), (4096, 4095), (4096, 0)] {
         assert_refused(&f, 2, budget, (3, length), Cause::NodeTable);
@@ -178,7 +189,7 @@ fn each_cause_alone() {
     }
     let full = vectors::image("args4097");
     assert_refused(&full, 2, 0, (4096, 0), Cause::ArgumentTable);
-    assert_eq!(by_host(&full, 2, 0), Err((23, 0)));
+    assert_eq!(by_query(&full, 2, 0), Err(refusal(23, 0)));
 }
 
 /// What each cause adds to a call that would be answered: so every two can be put together.
@@ -216,8 +227,8 @@ fn causes_in_their_order() {
         assert_refused(&image, literal, budget, lengths, causes[0]);
         // The C call has tables of 4,096 entries, so for it only the first three can apply.
         let host = causes.iter().find(|&&cause| cause <= Cause::Budget);
-        let given = by_host(&image, literal, budget);
-        assert_eq!(given.err(), host.map(|cause| (cause.number(), 0)));
+        let given = by_query(&image, literal, budget);
+        assert_eq!(given.err(), host.map(|cause| refusal(cause.number(), 0)));
     }
 }
 
@@ -227,9 +238,9 @@ fn an_image_comes_before_the_query() {
     let f = image(F);
     assert_refused(&f[..11], 128, 4097, (0, 0), Cause::ImageLength);
     let repeated = image("0; d 2<0; 4<0; d 2<0");
-    assert_eq!(by_query(&repeated, 128, 4097), Err((10, 3)));
-    assert_eq!(by_host(&repeated, 128, 4097), Err((10, 0)));
-    assert_eq!(by_host(&image("0; 1"), 128, 4097), Err((14, 0)));
+    assert_eq!(by_trees(&repeated, 128, 4097), Err(refusal(10, 3)));
+    assert_eq!(by_query(&repeated, 128, 4097), Err(refusal(10, 0)));
+    assert_eq!(by_query(&image("0; 1"), 128, 4097), Err(refusal(14, 0)));
 }
 
 /// UNKNOWN comes after all refusals, and 0 nodes need no table.
@@ -240,7 +251,7 @@ fn unknown_comes_last() {
     assert_refused(&f, 127, 1, (3, 0), Cause::NodeTable);
     assert_refused(&f, 127, 0, (2, 0), Cause::ArgumentTable);
     let (mut arguments, mut nodes) = tables(3, 0);
-    let given = native::query(&f, 127, 0, &mut arguments, &mut nodes);
+    let given = trees(&f, 127, 0, &mut arguments, &mut nodes);
     assert_eq!(given, 4 * 65_536);
     assert_eq!(arguments, [0, 130, 259]);
 }
@@ -251,7 +262,7 @@ fn unfinished_zeroes_the_budget() {
     for budget in 0..3 {
         let (mut arguments, mut nodes) = tables(4, 5);
         let (old_arguments, old_nodes) = tables(4, 5);
-        let given = native::query(&image(F), 2, budget as u32, &mut arguments, &mut nodes);
+        let given = trees(&image(F), 2, budget as u32, &mut arguments, &mut nodes);
         assert_eq!(given, 5 * 65_536 + budget as u64);
         assert_eq!(arguments[..3], [0, 130, 259]);
         assert_eq!(arguments[3..], old_arguments[3..]);
@@ -260,26 +271,93 @@ fn unfinished_zeroes_the_budget() {
     }
 }
 
+/// Every cause of an image, in each call that reads one: the reference's number and place, and tables as they were.
+#[test]
+fn refused_images_leave_the_tables() {
+    let mut seen: BTreeSet<u32> = BTreeSet::new();
+    let refused = vectors::images().into_iter().map(|image| (image, 0));
+    let damaged = damaged(SEED, DAMAGED).map(|case| case.image);
+    for (image, literal) in refused.chain(damaged.zip(0..)) {
+        let Err(cause) = reference::check(&image) else {
+            continue;
+        };
+        assert_eq!(check(&image), cause.packed());
+        let (mut arguments, mut nodes) = tables(9, 9);
+        assert_eq!(list(&image, &mut arguments), cause.packed());
+        let given = trees(&image, literal, 9, &mut arguments, &mut nodes);
+        assert_eq!(given, cause.packed());
+        assert_eq!((arguments, nodes), tables(9, 9));
+        assert_eq!(query(&image, literal, 9), cause.cause.number());
+        seen.insert(cause.cause.number());
+    }
+    assert_eq!(seen, (1..=14).collect());
+}
+
+/// Null with no entries is a table without entries: enough for a program without arguments, and for a budget of 0.
+#[test]
+fn null_tables_have_no_entries() {
+    let mut answers = 0;
+    for name in vectors::names("img") {
+        let image = vectors::image(&name);
+        let analysis = Analysis::of_image(&image);
+        let listed = analysis.as_ref().map_err(|&refusal| refusal);
+        let listed = listed.and_then(|analysis| analysis.list(&mut []));
+        let wanted = listed.map_or_else(reference::Refusal::packed, |count| count as u64);
+        assert_eq!(list(&image, &mut []), wanted, "{name}");
+        // SAFETY: nothing is written to tables without entries.
+        let given = unsafe { raw::foqtirel_list(image.as_ptr(), image.len(), null_mut(), 0) };
+        assert_eq!(given, wanted, "{name}");
+        for literal in [0, 2, 127, 128] {
+            for budget in [0, 1] {
+                let answer = analysis.as_ref().map_err(|&refusal| refusal);
+                let answer = answer.and_then(|a| a.query(literal, budget, &mut [], &mut []));
+                let wanted = match answer {
+                    Ok(_) => u64::from(reference::host_number(answer)),
+                    Err(refusal) => refusal.packed(),
+                };
+                answers += usize::from(granted(wanted).is_ok());
+                let given = trees(&image, literal, budget, &mut [], &mut []);
+                assert_eq!(given, wanted, "{name} {literal} {budget}");
+                // SAFETY: nothing is written to tables without entries.
+                let given = unsafe {
+                    raw::foqtirel_trees(
+                        image.as_ptr(),
+                        image.len(),
+                        literal,
+                        budget,
+                        null_mut(),
+                        0,
+                        null_mut(),
+                        0,
+                    )
+                };
+                assert_eq!(given, wanted, "{name} {literal} {budget}");
+            }
+        }
+    }
+    assert!(answers >= 9, "{answers} answers without tables");
+}
+
 #[test]
 fn no_bytes_are_an_image_of_length_zero() {
-    // SAFETY: nothing is read from an image of no bytes, and nothing written to tables of none.
-    let (host, query) = unsafe {
-        (
-            native::foqtirel_query(std::ptr::null(), 0, 200, 9999),
-            native::foqtirel_probe_query(
-                std::ptr::null(),
-                0,
-                2,
-                0,
-                std::ptr::null_mut(),
-                0,
-                std::ptr::null_mut(),
-                0,
-            ),
-        )
-    };
-    assert_eq!(host, 1);
-    assert_eq!(query, 1 << 32);
+    let refused = 1 << 32;
+    let (mut arguments, mut nodes) = tables(3, 3);
+    let (entries, rows) = (arguments.as_mut_ptr(), nodes.as_mut_ptr());
+    // SAFETY: nothing is read from an image of no bytes, and the tables have as many entries as the calls are told.
+    unsafe {
+        assert_eq!(raw::foqtirel_check(null(), 0), refused);
+        assert_eq!(raw::foqtirel_list(null(), 0, entries, 3), refused);
+        assert_eq!(
+            raw::foqtirel_trees(null(), 0, 2, 3, entries, 3, rows, 3),
+            refused
+        );
+        assert_eq!(
+            raw::foqtirel_trees(null(), 0, 2, 0, null_mut(), 0, null_mut(), 0),
+            refused
+        );
+        assert_eq!(raw::foqtirel_query(null(), 0, 200, 9999), 1);
+    }
+    assert_eq!((arguments, nodes), tables(3, 3));
 }
 
 /// Nothing is kept between calls, so threads don't disturb each other.
@@ -290,7 +368,7 @@ fn threads_may_call_at_once() {
         for turn in 0..200 {
             let name = names[(start + turn) % names.len()];
             let image = vectors::image(name);
-            assert_eq!(advise(&image, by_host), vectors::advice(name), "{name}");
+            assert_eq!(advise(&image, by_query), vectors::advice(name), "{name}");
         }
     };
     thread::scope(|scope| {

@@ -1,27 +1,29 @@
-//! How much stack the calls need, and whether what the header says of the C call holds.
+//! How much stack the calls need, and whether what the header says of them holds.
 //!
 //! Each order runs in a process of its own, on a thread with a stack of a given size, so that
 //! a stack that doesn't suffice shows as a process that failed.
-#![cfg(probe)]
 
 use std::collections::BTreeMap;
-use std::path::Path;
 use std::process::Command;
 use std::thread;
 
+use foqtirel_binding::{self as library, Node};
 use foqtirel_tests::generator::accepted::small_programs;
 use foqtirel_tests::generator::{accepted, all_applicable, many_arguments};
 use foqtirel_tests::header::constants;
 use foqtirel_tests::reference::image::defeasible_rules;
 use foqtirel_tests::reference::MOST_NODES;
-use foqtirel_tests::{native, vectors};
+use foqtirel_tests::vectors;
 
 const KIB: usize = 1024;
 const PAGE: usize = 4 * KIB;
+/// The system gives a thread this much even where less is asked for.
+const LEAST_THREAD: usize = 16 * KIB;
 /// Tells a process of this test what to do.
 const ORDER: &str = "FOQTIREL_STACK_ORDER";
 /// Enough for every list the tests make.
 const TABLE: usize = 100_000;
+const BUDGET: u32 = MOST_NODES as u32;
 
 /// Vectors and random programs with at most so many defeasible rules.
 fn images_up_to(most: usize) -> Vec<Vec<u8>> {
@@ -34,55 +36,87 @@ fn images_up_to(most: usize) -> Vec<Vec<u8>> {
     images
 }
 
-/// What a process is to call on its small stack.
-enum Order {
-    Nothing,
-    List(Vec<Vec<u8>>),
-    /// The C call with the greatest budget for each literal of each image.
-    Ask(Vec<(Vec<u8>, Vec<u32>)>),
+#[derive(Clone, Copy, PartialEq)]
+enum Call {
+    Check,
+    List,
+    Trees,
+    Query,
+}
+
+impl Call {
+    const ALL: [Call; 4] = [Call::Check, Call::List, Call::Trees, Call::Query];
+
+    fn name(self) -> &'static str {
+        match self {
+            Call::Check => "check",
+            Call::List => "list",
+            Call::Trees => "trees",
+            Call::Query => "query",
+        }
+    }
+
+    /// True if it is asked about a literal.
+    fn answers(self) -> bool {
+        matches!(self, Call::Trees | Call::Query)
+    }
+}
+
+/// What a process is to call on its small stack: for each literal of each image, with the greatest budget.
+struct Order {
+    call: Call,
+    questions: Vec<(Vec<u8>, Vec<u32>)>,
 }
 
 /// `nothing`, or a call and its images: `rules=N` applicable rules, `upto=N` rules at most, or
 /// the name of a vector with one literal.
-fn order_of(what: &str) -> Order {
-    let Some((call, (sort, number))) = what
-        .split_once(' ')
-        .and_then(|(call, images)| Some((call, images.split_once('=')?)))
-    else {
-        return Order::Nothing;
-    };
+fn order_of(what: &str) -> Option<Order> {
+    let (word, images) = what.split_once(' ')?;
+    let call = Call::ALL.into_iter().find(|call| call.name() == word);
+    let call = call.unwrap_or_else(|| panic!("no such call: {what}"));
+    let (sort, number) = images.split_once('=').expect("a sort of images");
     let number: usize = number.parse().expect("a number");
     let images = match sort {
         "rules" => vec![all_applicable(number).image()],
         "upto" => images_up_to(number),
-        name => return Order::Ask(vec![(vectors::image(name), vec![number as u32])]),
+        name => {
+            let questions = vec![(vectors::image(name), vec![number as u32])];
+            return Some(Order { call, questions });
+        }
     };
-    match call {
-        "list" => Order::List(images),
-        "ask" => Order::Ask(images.into_iter().map(with_all_literals).collect()),
-        _ => panic!("no such order: {what}"),
-    }
+    let literals = |image: &[u8]| match image.first() {
+        Some(&atoms) if call.answers() => (0..2 * u32::from(atoms).clamp(1, 64)).collect(),
+        _ => vec![0],
+    };
+    let questions = images
+        .into_iter()
+        .map(|image| (image.clone(), literals(&image)))
+        .collect();
+    Some(Order { call, questions })
 }
 
-fn with_all_literals(image: Vec<u8>) -> (Vec<u8>, Vec<u32>) {
-    let atoms = image.first().map_or(0, |&atoms| u32::from(atoms).min(64));
-    (image, (0..2 * atoms.max(1)).collect())
+/// The tables that the calls are lent.
+struct Tables {
+    arguments: Vec<u32>,
+    nodes: Vec<Node>,
 }
 
 /// Returns how many calls were not refused.
-fn carry_out(order: Order, table: &mut [u32]) -> usize {
-    match order {
-        Order::Nothing => 0,
-        Order::List(images) => images
-            .iter()
-            .filter(|image| native::list(image, table) >> 32 == 0)
-            .count(),
-        Order::Ask(questions) => questions
-            .iter()
-            .flat_map(|(image, literals)| literals.iter().map(move |&literal| (image, literal)))
-            .filter(|(image, literal)| native::host_query(image, *literal, 4096) >> 16 != 0)
-            .count(),
+fn carry_out(order: &Order, tables: &mut Tables) -> usize {
+    let Tables { arguments, nodes } = tables;
+    let mut answered = 0;
+    for (image, literals) in &order.questions {
+        for &literal in literals {
+            let refused = match order.call {
+                Call::Check => library::check(image) >> 32 != 0,
+                Call::List => library::list(image, arguments) >> 32 != 0,
+                Call::Trees => library::trees(image, literal, BUDGET, arguments, nodes) >> 32 != 0,
+                Call::Query => library::query(image, literal, BUDGET) >> 16 == 0,
+            };
+            answered += usize::from(!refused);
+        }
     }
+    answered
 }
 
 /// Not a test by itself: what the processes of the other tests run.
@@ -93,10 +127,13 @@ fn child() {
     };
     let (stack, what) = order.split_once(' ').expect("a size and what to call");
     let order = order_of(what);
-    let mut table = vec![0; TABLE];
+    let mut tables = Tables {
+        arguments: vec![0; TABLE],
+        nodes: vec![Node::default(); MOST_NODES],
+    };
     let thread = thread::Builder::new()
         .stack_size(stack.parse().expect("a size"))
-        .spawn(move || carry_out(order, &mut table))
+        .spawn(move || order.map_or(0, |order| carry_out(&order, &mut tables)))
         .expect("a thread");
     println!("answered {}", thread.join().expect("a result"));
 }
@@ -121,9 +158,9 @@ fn suffices(stack: usize, what: &str) -> bool {
     output.status.success()
 }
 
-/// The least stack that is enough, in bytes, to a page.
+/// The least stack that is enough, in bytes, to a page, and at least what a thread has anyway.
 fn least_stack(what: &str) -> usize {
-    let (mut too_little, mut enough) = (0, 4096 * KIB);
+    let (mut too_little, mut enough) = (LEAST_THREAD - PAGE, 4096 * KIB);
     assert!(suffices(enough, what), "{what} needs more than 4 MiB");
     while enough - too_little > PAGE {
         let middle = (too_little + enough) / 2 / PAGE * PAGE;
@@ -136,24 +173,22 @@ fn least_stack(what: &str) -> usize {
     enough
 }
 
+/// Each figure of the header with what it is enough for.
 #[test]
-fn everything_is_listed_on_4_mib() {
-    assert!(suffices(4096 * KIB, "list upto=16"));
-}
-
-#[test]
-fn few_defeasible_rules_take_little_stack() {
-    assert!(suffices(128 * KIB, "list upto=8"), "8 rules on 128 KiB");
-    assert!(suffices(512 * KIB, "list upto=12"), "12 rules on 512 KiB");
-}
-
-#[test]
-fn every_literal_is_answered_on_the_stack_of_the_header() {
+fn every_call_ends_on_the_stack_of_the_header() {
     let header = constants();
-    assert!(header["STACK_MOST"] <= 4096 * KIB);
-    assert!(suffices(header["STACK_MOST"], "ask upto=16"));
-    assert!(header["STACK_12_RULES"] <= 512 * KIB);
-    assert!(suffices(header["STACK_12_RULES"], "ask upto=12"));
+    for (figure, most, what) in [
+        ("STACK_CHECK", 16, "check upto=16"),
+        ("STACK_LIST_12", 128, "list upto=12"),
+        ("STACK_LIST", 2048, "list upto=16"),
+        ("STACK_12_RULES", 512, "trees upto=12"),
+        ("STACK_12_RULES", 512, "query upto=12"),
+        ("STACK_MOST", 4096, "trees upto=16"),
+        ("STACK_MOST", 4096, "query upto=16"),
+    ] {
+        assert!(header[figure] <= most * KIB, "{figure}");
+        assert!(suffices(header[figure], what), "{what} on {figure}");
+    }
 }
 
 /// Vector, a literal with one node, one with a line of so many arguments and no other node.
@@ -164,31 +199,36 @@ const DEEP: (&str, u32, u32, usize) = ("deep180", 0, 22, 180);
 fn the_figures_of_the_header_hold() {
     let header = constants();
     let (name, shallow, deep, length) = DEEP;
-    let shallow = least_stack(&format!("ask {name}={shallow}"));
-    let deep = least_stack(&format!("ask {name}={deep}"));
-    let level = (deep - shallow + PAGE).div_ceil(length - 1);
-    let mut lines = format!(
-        "least stack of the C call: {} KiB for a line of one argument, {} KiB for one of {length}: \
-         at most {level} bytes for each argument more\n",
-        shallow / KIB,
-        deep / KIB
-    );
     let figures = [
         (12, header["STACK_12_LINE"], header["STACK_12_RULES"]),
         (16, MOST_NODES, header["STACK_MOST"]),
     ];
-    let mut held = level <= header["STACK_LEVEL"];
-    for (rules, longest, stack) in figures {
-        let least = least_stack(&format!("ask rules={rules}"));
-        let with_lines = least + (longest + 1) * level;
+    let mut lines = String::new();
+    let mut held = true;
+    for call in Call::ALL.into_iter().filter(|call| call.answers()) {
+        let word = call.name();
+        let shallow = least_stack(&format!("{word} {name}={shallow}"));
+        let deep = least_stack(&format!("{word} {name}={deep}"));
+        let level = (deep - shallow + PAGE).div_ceil(length - 1);
         lines += &format!(
-            "least stack of the C call for {rules} defeasible rules: {} KiB; with a line of {longest}: \
-             {} KiB of the header's {}\n",
-            least / KIB,
-            with_lines / KIB,
-            stack / KIB
+            "least stack of {word}: {} KiB for a line of one argument, {} KiB for one of {length}: \
+             at most {level} bytes for each argument more\n",
+            shallow / KIB,
+            deep / KIB
         );
-        held &= with_lines <= stack;
+        held &= level <= header["STACK_LEVEL"];
+        for (rules, longest, stack) in figures {
+            let least = least_stack(&format!("{word} rules={rules}"));
+            let with_lines = least + (longest + 1) * level;
+            lines += &format!(
+                "least stack of {word} for {rules} defeasible rules: {} KiB; with a line of {longest}: \
+                 {} KiB of the header's {}\n",
+                least / KIB,
+                with_lines / KIB,
+                stack / KIB
+            );
+            held &= with_lines <= stack;
+        }
     }
     print!("{lines}");
     assert!(held, "{lines}");
@@ -197,45 +237,42 @@ fn the_figures_of_the_header_hold() {
 /// Measured, not judged.
 #[test]
 fn least_stacks() {
-    let mut lines = format!(
-        "least stack for a thread alone: {} KiB\n",
-        least_stack("nothing") / KIB
-    );
+    let alone = least_stack("nothing");
+    assert_eq!(alone, LEAST_THREAD, "the measure itself takes stack");
+    let mut lines = String::new();
     for rules in [0, 8, 12, 16] {
-        let list = least_stack(&format!("list rules={rules}"));
-        let ask = least_stack(&format!("ask rules={rules}"));
-        lines += &format!(
-            "least stack for {rules} defeasible rules: {} KiB to list, {} KiB to answer\n",
-            list / KIB,
-            ask / KIB
-        );
+        let least = Call::ALL.map(|call| {
+            let word = call.name();
+            let bytes = least_stack(&format!("{word} rules={rules}"));
+            format!("{word} {} KiB", bytes / KIB)
+        });
+        let least = least.join(", ");
+        lines += &format!("least stack for {rules} defeasible rules: {least}\n");
     }
     print!("{lines}");
 }
 
-/// Measured, not judged: what each function of the libraries takes off the stack pointer at once,
+/// Measured, not judged: what each function of the library takes off the stack pointer at once,
 /// or in a loop that touches every page on the way.
 #[test]
 fn largest_frames() {
+    let path = library::library();
+    let output = Command::new("objdump")
+        .args(["-d", "--no-show-raw-insn"])
+        .arg(path)
+        .output()
+        .expect("objdump (of binutils) is needed to see the library's frames");
+    assert!(output.status.success(), "objdump {}", path.display());
+    let frames = frames_of(&String::from_utf8_lossy(&output.stdout));
     let mut lines = String::new();
-    for (library, call) in [
-        ("libprobe.a", "foqtirel_probe_list"),
-        ("libhost.a", "foqtirel_query"),
-    ] {
-        let path = Path::new(env!("LIBRARY_DIRECTORY")).join(library);
-        let output = Command::new("objdump")
-            .args(["-d", "--no-show-raw-insn"])
-            .arg(&path)
-            .output()
-            .expect("objdump (of binutils) is needed to see the library's frames");
-        assert!(output.status.success(), "objdump {}", path.display());
-        let frames = frames_of(&String::from_utf8_lossy(&output.stdout));
-        assert!(frames.contains_key(call), "{library}");
-        for (name, bytes) in frames {
-            lines += &format!("largest frame of {name} in {library}: {bytes} bytes\n");
-        }
+    for (name, bytes) in &frames {
+        lines += &format!("largest frame of {name}: {bytes} bytes\n");
     }
     print!("{lines}");
+    for call in Call::ALL {
+        let name = format!("foqtirel_{}", call.name());
+        assert!(frames.contains_key(&name), "{name}");
+    }
 }
 
 fn frames_of(disassembly: &str) -> BTreeMap<String, usize> {

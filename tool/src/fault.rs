@@ -1,6 +1,6 @@
 //! Why a command gave no answer, and how that is told.
 
-use crate::engine::Refusal;
+use crate::engine::{self, Refusal};
 
 /// A stretch of one source line. Line and column count from 1, in characters.
 #[derive(Clone, Copy, Debug, PartialEq, Eq)]
@@ -168,8 +168,8 @@ impl Fault {
                 let Refusal { number, place } = *refusal;
                 format!(
                     "refused {number} {place}: {}{}{more}\n",
-                    refusal.subject(file),
-                    refusal.meaning()
+                    engine::subject(refusal, file),
+                    engine::meaning(refusal)
                 )
             }
         }

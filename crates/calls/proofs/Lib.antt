@@ -1,3 +1,4 @@
 -- The laws of the calls' refusals and of the list call.
 pub mod Refusals
 mod Listings
+pub mod Fittings

@@ -1,5 +1,5 @@
 -- The causes for turning an order away, as document 01's table has them: each with its number, its place and when it
--- applies.
+-- applies; 1 to 13 where `verdict` of crate `layout` gives them.
 use mathlib.Core.Path.{_≡_}
 use mathlib.Core.List.{List}
 use Prim.Native.Nat.{ℕ, _≤_, _<_}

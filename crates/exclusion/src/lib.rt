@@ -5,7 +5,7 @@ ghost use mathlib.Core.Bool.{true, false, _&&_};
 ghost use lib.Dec.{eqb};
 ghost use lib.ListN.{length};
 ghost use Rattle.answer.specs.Answer.{codeOf};
-ghost use Rattle.exclusion.specs.Exclusion.{callOf, saysYes, TwoCalls};
+ghost use Rattle.exclusion.specs.Exclusion.{callOf, saysYes, OneCall, TablesLeft, TwoCalls};
 use answer::Answer;
 use nodes::Node;
 
@@ -41,7 +41,7 @@ fn by_query(
     arguments: &mut [u32],
     nodes: &mut [Node],
 ) -> bool
-    ensures { λ r. ⌜ r ≡ saysYes (now (image .entry)) (callOf false literal budget (length (now (arguments .entry))) (length (now (nodes .entry)))) ⌝ }
+    ensures { λ r. ⌜ OneCall false (now (image .entry)) literal budget (now (arguments .entry)) (now (nodes .entry)) r (now (arguments .exit)) (now (nodes .exit)) ⌝ }
 {
     is_yes(warrant::query(image, literal, budget, arguments, nodes))
 }
@@ -55,7 +55,7 @@ fn says_yes(
     arguments: &mut [u32],
     nodes: &mut [Node],
 ) -> bool
-    ensures { λ r. ⌜ r ≡ saysYes (now (image .entry)) (callOf foreign literal budget (length (now (arguments .entry))) (length (now (nodes .entry)))) ⌝ }
+    ensures { λ r. ⌜ OneCall foreign (now (image .entry)) literal budget (now (arguments .entry)) (now (nodes .entry)) r (now (arguments .exit)) (now (nodes .exit)) ⌝ }
 {
     if foreign {
         by_host(image, literal, budget)
@@ -71,7 +71,8 @@ fn both(first: bool, second: bool) -> bool
     if first { second } else { false }
 }
 
-// Two calls on one image, whichever they are, with tables of their own: whether both say YES.
+// Two calls on one image, whichever they are, with tables of their own: whether both say YES, and what each leaves in its
+// tables.
 pub fn both_yes(
     image: &[u8],
     foreign: bool,
@@ -85,7 +86,7 @@ pub fn both_yes(
     arguments2: &mut [u32],
     nodes2: &mut [Node],
 ) -> bool
-    ensures { λ r. ⌜ TwoCalls (now (image .entry)) literal literal2 (callOf foreign literal budget (length (now (arguments .entry))) (length (now (nodes .entry)))) (callOf foreign2 literal2 budget2 (length (now (arguments2 .entry))) (length (now (nodes2 .entry)))) r ⌝ }
+    ensures { λ r. ⌜ TwoCalls (now (image .entry)) literal literal2 (callOf foreign literal budget (length (now (arguments .entry))) (length (now (nodes .entry)))) (callOf foreign2 literal2 budget2 (length (now (arguments2 .entry))) (length (now (nodes2 .entry)))) r × TablesLeft foreign (now (image .entry)) literal budget (now (arguments .entry)) (now (nodes .entry)) (now (arguments .exit)) (now (nodes .exit)) × TablesLeft foreign2 (now (image .entry)) literal2 budget2 (now (arguments2 .entry)) (now (nodes2 .entry)) (now (arguments2 .exit)) (now (nodes2 .exit)) ⌝ }
 {
     let first = says_yes(foreign, image, literal, budget, arguments, nodes);
     let second = says_yes(foreign2, image, literal2, budget2, arguments2, nodes2);

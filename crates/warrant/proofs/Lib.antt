@@ -3,7 +3,6 @@ pub mod Calls
 pub mod Refusals
 pub mod Answers
 pub mod Claims
-pub mod Fittings
 pub mod Queries
 pub mod Rows
 pub mod Asking

@@ -36,7 +36,7 @@ pub record Demand-1 : Type 0 where
       → length (queryArguments image h budget table nodeRoom) ≡ length table
   pub nodes-length : (image : List ℕ) (h budget argumentRoom : ℕ) (table : List Node)
       → length (queryNodes image h budget argumentRoom table) ≡ length table
-  -- it is accepted where no cause applies, else refused by a listed one that does
+  -- a call is accepted where no cause applies, else refused by a listed one that does
   pub check-judged : (image : List ℕ) → Judged (ImageCause image) (checkImage image)
   pub list-judged : (image : List ℕ) (room : ℕ) → Judged (ListCause image room) (listVerdict image room)
   pub call-judged : (image : List ℕ) (c : Call) → Judged (QueryCause image (asked c)) (verdictOf image c)
@@ -47,12 +47,12 @@ pub record Demand-1 : Type 0 where
       → (listed image room ≡ lists.Refused number place) × Carries (listCall image room) number place
   pub call-refused : (image : List ℕ) (c : Call) (number place : ℕ) → verdictOf image c ≡ Refused number place
       → HandsBack image c number place
-  -- and none passes for acceptance, for a count or for an answer
+  -- it passes for no acceptance, no count and no answer
   pub check-accepted : (image : List ℕ) → (checkImage image ≡ Accepted) ↔ (checkCall image ≡ 0)
   pub list-accepted : (image : List ℕ) (room : ℕ) → (listVerdict image room ≡ Accepted) ↔ (listCall image room < 0x1_0000_0000)
   pub call-accepted : (image : List ℕ) (c : Call)
       → (verdictOf image c ≡ Accepted) ↔ ((1 ≤ codeFrom image c) × (codeFrom image c ≤ 5))
-  -- it changes no lent table
+  -- and changes no lent table
   pub list-left : (image table : List ℕ) (number place : ℕ) → listVerdict image (length table) ≡ Refused number place
       → listTable image table ≡ table
   pub arguments-left : (image : List ℕ) (h budget : ℕ) (table : List ℕ) (nodeRoom number place : ℕ)

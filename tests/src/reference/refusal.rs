@@ -65,7 +65,7 @@ impl Refusal {
         Refusal { cause, place }
     }
 
-    /// Number × 2^32 + place, as the calls made for tests hand it back.
+    /// Number × 2^32 + place, as the 64-bit calls for C hand it back.
     pub fn packed(self) -> u64 {
         (u64::from(self.cause.number()) << 32) + self.place as u64
     }

@@ -1,4 +1,4 @@
--- Ends after the last literal. Assumes nothing.
+-- Ends after the last literal.
 use Prim.Native.Nat.{_-_}
 use native.Mathlib.Omega.{arith}
 use borrow.Author.Needs.{needs}
@@ -11,23 +11,14 @@ Inv-loop image count literals literal₀ literal = Unit {0}
 abbrev μ-loop : tie.MeasureT-loop
 μ-loop image count literals literal₀ literal = literals - literal
 
-slice-aggregate-write-all : tie.Need-slice-aggregate-write-all Inv-loop μ-loop
-slice-aggregate-write-all c = search needs
-
-write-all-requires : tie.Need-write-all-requires Inv-loop μ-loop
-write-all-requires c κs = search needs
-
-print-decimal-requires : tie.Need-print-decimal-requires Inv-loop μ-loop
-print-decimal-requires c κs = search needs
-
-slice-aggregate-write-all-2 : tie.Need-slice-aggregate-write-all-2 Inv-loop μ-loop
-slice-aggregate-write-all-2 c = search needs
-
-write-all-requires-2 : tie.Need-write-all-requires-2 Inv-loop μ-loop
-write-all-requires-2 c κs = search needs
-
 returns : tie.Need-returns Inv-loop μ-loop
 returns c = search needs
+
+arguments-requires : tie.Need-arguments-requires Inv-loop μ-loop
+arguments-requires c κs = search needs
+
+returns-2 : tie.Need-returns-2 Inv-loop μ-loop
+returns-2 c = search needs
 
 shared-slice-read-twice : tie.Need-shared-slice-read-twice Inv-loop μ-loop
 shared-slice-read-twice c = search needs
@@ -44,6 +35,9 @@ foqtirel-query-requires c κs = search needs
 line-requires : tie.Need-line-requires Inv-loop μ-loop
 line-requires c κs = search needs
 
+returns-3 : tie.Need-returns-3 Inv-loop μ-loop
+returns-3 c = search needs
+
 add-literal : tie.Need-add-literal Inv-loop μ-loop
 add-literal c = omega arith
 
@@ -53,8 +47,8 @@ loop-less c = omega arith
 loop-again : tie.Need-loop-again Inv-loop μ-loop
 loop-again c = search needs
 
-returns-2 : tie.Need-returns-2 Inv-loop μ-loop
-returns-2 c = search needs
+returns-4 : tie.Need-returns-4 Inv-loop μ-loop
+returns-4 c = search needs
 
 pub answers-spec : {M : Type 1} → statement M
 answers-spec =
@@ -62,18 +56,16 @@ answers-spec =
     (tie.spec
     Inv-loop
     μ-loop
-    slice-aggregate-write-all
-    write-all-requires
-    print-decimal-requires
-    slice-aggregate-write-all-2
-    write-all-requires-2
     returns
+    arguments-requires
+    returns-2
     shared-slice-read-twice
     twice-requires
     loop-holds
     foqtirel-query-requires
     line-requires
+    returns-3
     add-literal
     loop-less
     loop-again
-    returns-2)
+    returns-4)

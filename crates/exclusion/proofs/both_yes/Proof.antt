@@ -1,6 +1,6 @@
 -- A walk: two calls on one image, each with tables of its own that are handed on for good, and `both` joins what they say.
 -- All that is known of them is that each meets its contract; that literals that exclude each other never both get YES is
--- demand 3 (`two-calls`). Assumes nothing.
+-- demand 3 (`two-calls`).
 use mathlib.Core.Path.{_≡_, refl}
 use mathlib.Core.Bool.{Bool, _&&_}
 use mathlib.Core.List.{List, [], _∷_}
@@ -45,7 +45,7 @@ use Rattle.nodes.specs.declared.Node.{Node}
 use Rattle.calls.specs.Calls.{Call, literalAsked}
 use Rattle.warrant.proofs.Asking.{Words, Nodes, v}
 use Rattle.nodes.proofs.Node as node
-use Rattle.exclusion.specs.Exclusion.{callOf, saysYes, TwoCalls}
+use Rattle.exclusion.specs.Exclusion.{callOf, OneCall, TablesLeft, TwoCalls}
 use Rattle.exclusion.proofs.Exclusion.{literal-asked, two-calls}
 use Rattle.exclusion.proofs.says_yes as says-yes
 use Rattle.exclusion.proofs.says_yes.Symbol as says-yes-symbol
@@ -176,8 +176,11 @@ module _ {M : Type 1} (𝓤 : URA M) (H : Heap 𝓤) (A : Atoms 𝓤) (W : Given
   abbrev asked : One → Bool × (Words × (ℕ × (ℕ × (Words × (Nodes × Unit {0})))))
   asked o = (o .fo, (im, (o .li, (o .bu, (o .ar, (o .no, tt))))))
 
-  abbrev One-says : One → Bool → Type 0
-  One-says o k = k ≡ saysYes (im .now) (call-of o)
+  abbrev One-says : One → Bool → List ℕ → List Node → Type 0
+  One-says o = OneCall (o .fo) (im .now) (o .li) (o .bu) (o .ar .now) (o .no .now)
+
+  abbrev One-leaves : One → List ℕ → List Node → Type 0
+  One-leaves o = TablesLeft (o .fo) (im .now) (o .li) (o .bu) (o .ar .now) (o .no .now)
 
   abbrev to-says : One → Says 𝓤 H A mm run .Ghost
   to-says o = (
@@ -210,18 +213,18 @@ module _ {M : Type 1} (𝓤 : URA M) (H : Heap 𝓤) (A : Atoms 𝓤) (W : Given
   says-back o w = later (some (λ (k : Bool).
       ((‵ (flft κi qi) ⊛ ‵ (flft (o .κa) (o .qa)) ⊛ ‵ (flft (o .κn) (o .qn)) ⊛ ‵ ftrue) ⊛ ‵ (Boolean .own k (w ∷ [])))
       ⊛ some (λ (zs : Lasts says-yes.ended (κi, (o .κa, (o .κn, tt))) (asked o)).
-      ‵ (lasts says-yes.ended (κi, (o .κa, (o .κn, tt))) (asked o) zs) ⊛ raw (fact 𝓤 (One-says o k)))))
+      ‵ (lasts says-yes.ended (κi, (o .κa, (o .κn, tt))) (asked o) zs) ⊛ raw (fact 𝓤 (One-says o k (zs .1 .1 .1 .1 .0) (zs .1 .1 .1 .1 .1 .0))))))
 
   -- one call has returned: back come the tokens and the last lists of its two tables
   says-returns : {K : Type 0} {Γ : List (Item 𝓤)} {G : Goal 𝓤 H} → K → Soaks G → (o : One) (w : Val)
       → ((k : Bool) (za : List ℕ) (zn : List Node) → Is Boolean k (w ∷ []) → length za ≡ length (o .ar .now)
-      → length zn ≡ length (o .no .now) → One-says o k
+      → length zn ≡ length (o .no .now) → One-says o k za zn
       → Seq K W (‵ (flft (o .κn) (o .qn)) ∷ ‵ (flft (o .κa) (o .qa)) ∷ ‵ (flft κi qi)
       ∷ ‵ (finally node.the-row (o .no .name) zn) ∷ ‵ (finally u32 (o .ar .name) za) ∷ Γ) G)
       → Seq K W (raw (Says 𝓤 H A mm run .post (to-says o) w) ∷ Γ) G
   says-returns t z o w go-on =
       use1 W (says-back o w) (id⊢ 𝓤 _) $ await t z $ pick t (λ k. split t $ move t (1 ∷ []) $ pick t (λ zs.
-      split t $ move t (1 ∷ []) $ heard t (One-says o k) (λ said.
+      split t $ move t (1 ∷ []) $ heard t (One-says o k (zs .1 .1 .1 .1 .0) (zs .1 .1 .1 .1 .1 .0)) (λ said.
       fsplit t $ drop t $ fsplit t $ drop t $ fsplit t $ drop t $ fsplit t $ drop t $
       fsplit t $ fsplit t $ move t (1 ∷ []) $ feqL t (λ same-length.
       move t (1 ∷ []) $ fsplit t $ fsplit t $ move t (1 ∷ []) $ feqL t (λ same-nodes.
@@ -261,7 +264,8 @@ module _ {M : Type 1} (𝓤 : URA M) (H : Heap 𝓤) (A : Atoms 𝓤) (W : Given
   exits : (r : Bool) (w : Val) (za₁ : List ℕ) (zn₁ : List Node) (za₂ : List ℕ) (zn₂ : List Node) → Is Boolean r (w ∷ [])
       → length za₁ ≡ length (x .ar .now) → length zn₁ ≡ length (x .no .now)
       → length za₂ ≡ length (y .ar .now) → length zn₂ ≡ length (y .no .now)
-      → TwoCalls (im .now) (x .li) (y .li) (call-of x) (call-of y) r → ent 𝓤 (⋆ 𝓤 H A (Ended za₁ zn₁ za₂ zn₂)) (Post w)
+      → TwoCalls (im .now) (x .li) (y .li) (call-of x) (call-of y) r × One-leaves x za₁ zn₁ × One-leaves y za₂ zn₂
+      → ent 𝓤 (⋆ 𝓤 H A (Ended za₁ zn₁ za₂ zn₂)) (Post w)
   exits r w za₁ zn₁ za₂ zn₂ is same-length₁ same-nodes₁ same-length₂ same-nodes₂ e =
       qed W (Ended za₁ zn₁ za₂ zn₂) ∵
       suffices ! _ (ends-at 𝓤 H A both-yes.ended stayed (both-yes.clauses 𝓤 H A mm run) W ((κs, qs, tt, args, vals), tt) w r
@@ -375,8 +379,12 @@ module _ {M : Type 1} (𝓤 : URA M) (H : Heap 𝓤) (A : Atoms 𝓤) (W : Given
         frees-cell ! 16 refl refl $ frees-cell ! 14 refl refl $ frees-cell ! 12 refl refl $
         frees-cell ! 10 refl refl $ free0 ! $
         move ! (0 ∷ 3 ∷ 1 ∷ 4 ∷ 5 ∷ 7 ∷ 6 ∷ 8 ∷ 2 ∷ 9 ∷ []) $
-        by ! (exits r w za₁ zn₁ za₂ zn₂ is same-length₁ same-nodes₁ same-length₂ same-nodes₂ (two-calls (im .now)
-        (x .li) (y .li) (call-of x) (call-of y) (asks x) (asks y) k₁ k₂ r said₁ said₂ met))))))))))))))))))))))))))))))))
+        by ! (exits r w za₁ zn₁ za₂ zn₂ is same-length₁ same-nodes₁ same-length₂ same-nodes₂ (
+          two-calls (im .now)
+              (x .li) (y .li) (call-of x) (call-of y) (asks x) (asks y) k₁ k₂ r (said₁ .0) (said₂ .0) met,
+          said₁ .1,
+          said₂ .1,
+        ))))))))))))))))))))))))))))))))
 
 module _ {M : Type 1} (𝓤 : URA M) (H : Heap 𝓤) (A : Atoms 𝓤) (W : Given 𝓤 H A) (mm : Memory → SProp 𝓤)
     (run : Routine → Fun 𝓤) where

@@ -1,11 +1,10 @@
 -- The walk is `warrant`'s `Asking.antt`, with `is_yes` for what looks at the answer. All that is known of the two that are
--- called is that each meets its contract. Assumes nothing.
-use mathlib.Core.Path.{_≡_, _∙_, ap}
+-- called is that each meets its contract.
+use mathlib.Core.Path.{_∙_, ap}
 use mathlib.Core.Bool.{Bool, false}
 use mathlib.Core.List.{List}
 use Prim.Native.Nat.{ℕ}
 use lib.Dec.{eqb}
-use lib.ListN.{length}
 use mir.Syntax.{tyBool}
 use contract.Running.{givenOf, tables, tablesOf}
 use denote.Plain.{Boolean, bool-makes, bool-lawful}
@@ -17,7 +16,7 @@ use Rattle.nodes.specs.declared.Node.{Node}
 use Rattle.warrant.proofs.Asking.{Query, Looks, asks-meets}
 use Rattle.warrant.proofs.query.Symbol as query-symbol
 use Rattle.warrant.proofs.query.Met as query-met
-use Rattle.exclusion.specs.Exclusion.{callOf, saysYes}
+use Rattle.exclusion.specs.Exclusion.{OneCall}
 use Rattle.exclusion.proofs.is_yes.Symbol as is-yes-symbol
 use Rattle.exclusion.proofs.is_yes.Met as is-yes-met
 use Rattle.exclusion.proofs.by_query.Key.{name as #by-query}
@@ -29,7 +28,7 @@ abbrev yes : Answer → Bool
 yes r = eqb (codeOf r) 1
 
 abbrev Ensured : List ℕ → ℕ → ℕ → List ℕ → List Node → Bool → List ℕ → List Node → Type 0
-Ensured im li bu xs ns k za zn = k ≡ saysYes im (callOf false li bu (length xs) (length ns))
+Ensured = OneCall false
 
 pub by-query-spec : {M : Type 1} → stated.statement M
 unfolding code.routine tablesOf
@@ -40,7 +39,7 @@ by-query-spec 𝓤 H 𝓜 𝓖 𝓡 =
     (tables 𝓤 H 𝓜 𝓡 code.env .C) (tables 𝓤 H 𝓜 𝓡 code.env .Λ) #by-query code.function (code.unfolded 𝓤 H 𝓜 𝓡)
     (asks-meets 𝓤 H A W Boolean tyBool (bool-makes 𝓤 H A W)
     (λ k w is. bool-lawful 𝓤 H A W .typed k _ is .0) yes Ensured
-    (λ im li bu xs ns r k za zn seen said. seen ∙ ap yes (said .0)) is-yes-symbol.name
+    (λ im li bu xs ns r k za zn seen said. (seen ∙ ap yes (said .0), (said .1, said .2))) is-yes-symbol.name
     (tablesOf 𝓤 H 𝓜 (tables 𝓤 H 𝓜 𝓡 code.env))
     (cited 𝓤 H (Query 𝓤 H A) 𝓜 𝓡 code.env query-symbol.name query-symbol.routine
     code.calls-warrant·query (query-met.met 𝓤 H 𝓜 𝓖 𝓡))

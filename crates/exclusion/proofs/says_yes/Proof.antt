@@ -1,6 +1,6 @@
 -- A walk with a branch. Where `foreign`, `by_host` is called and the two lent tables are let go as they are; else they are
 -- handed on to `by_query` for good. Both arms leave the same, and `ends` goes on from there. All that is known of the two
--- calls is that each meets its contract. Assumes nothing.
+-- calls is that each meets its contract.
 use mathlib.Core.Path.{_≡_, refl}
 use mathlib.Core.Bool.{Bool, true, false, not}
 use mathlib.Core.List.{List, [], _∷_}
@@ -47,7 +47,7 @@ use Rattle.lists.proofs.Locals.{var, gets, sliced, frees-cell}
 use Rattle.nodes.specs.declared.Node.{Node}
 use Rattle.warrant.proofs.Asking.{Words, Nodes, Asked, v, lent, OI, five, vals, Asking, to-asking, goes-asking, comes-back}
 use Rattle.nodes.proofs.Node as node
-use Rattle.exclusion.specs.Exclusion.{callOf, saysYes}
+use Rattle.exclusion.specs.Exclusion.{callOf, saysYes, OneCall}
 use Rattle.exclusion.proofs.LetGo.{let-go}
 use Rattle.exclusion.proofs.by_host as by-host
 use Rattle.exclusion.proofs.by_host.Symbol as by-host-symbol
@@ -75,7 +75,7 @@ stayed = (
 )
 
 abbrev By-query-ensures : List ℕ → ℕ → ℕ → List ℕ → List Node → Bool → List ℕ → List Node → Type 0
-By-query-ensures im li bu xs ns k za zn = k ≡ saysYes im (callOf false li bu (length xs) (length ns))
+By-query-ensures = OneCall false
 
 module _ {M : Type 1} (𝓤 : URA M) (H : Heap 𝓤) (A : Atoms 𝓤) (mem : Memory → SProp 𝓤) (run : Routine → Fun 𝓤) where
   -- the contracts that the proof cites
@@ -112,19 +112,20 @@ module _ {M : Type 1} (𝓤 : URA M) (H : Heap 𝓤) (A : Atoms 𝓤) (W : Given
 
   -- ---- the calls
 
-  abbrev Says : Bool → Bool → Type 0
-  Says from-c k = k ≡ saysYes (im .now) (callOf from-c li bu al nl)
+  abbrev Says : Bool → Bool → List ℕ → List Node → Type 0
+  Says from-c = OneCall from-c (im .now) li bu (ar .now) (no .now)
 
   abbrev By-host-says : Bool → Type 0
-  By-host-says = Says true
+  By-host-says k = k ≡ saysYes (im .now) (callOf true li bu al nl)
 
-  host-case : (from-c k : Bool) → T from-c → By-host-says k → Says from-c k
-  host-case true k taken said = said
+  -- the tables are as they were
+  host-case : (from-c k : Bool) → T from-c → By-host-says k → Says from-c k (ar .now) (no .now)
+  host-case true k taken said = (said, (refl, refl))
   host-case false k taken said = absurd taken
 
-  query-case : (from-c k : Bool) → T (not from-c) → Says false k → Says from-c k
-  query-case true k left said = absurd left
-  query-case false k left said = said
+  query-case : (from-c k : Bool) (za : List ℕ) (zn : List Node) → T (not from-c) → Says false k za zn → Says from-c k za zn
+  query-case true k za zn left said = absurd left
+  query-case false k za zn left said = said
 
   abbrev host-asked : Words × (ℕ × (ℕ × Unit {0}))
   host-asked = (im, (li, (bu, tt)))
@@ -156,7 +157,7 @@ module _ {M : Type 1} (𝓤 : URA M) (H : Heap 𝓤) (A : Atoms 𝓤) (W : Given
       ∷ ‵ (finally u32 (ar .name) za) ∷ ‵ (OI q) ∷ []
 
   exits : (k : Bool) (w : Val) (za : List ℕ) (zn : List Node) → Is Boolean k (w ∷ []) → length za ≡ al → length zn ≡ nl
-      → Says fo k → ent 𝓤 (⋆ 𝓤 H A (Ended za zn)) (Post w)
+      → Says fo k za zn → ent 𝓤 (⋆ 𝓤 H A (Ended za zn)) (Post w)
   exits k w za zn is same-length same-nodes e =
       qed W (Ended za zn) ∵
       suffices ! _ (ends-at 𝓤 H A says-yes.ended stayed (says-yes.clauses 𝓤 H A mm run) W
@@ -214,7 +215,7 @@ module _ {M : Type 1} (𝓤 : URA M) (H : Heap 𝓤) (A : Atoms 𝓤) (W : Given
         ∷ ‵ (froom tyBool l₀ 0) ∷ ‵ (fdies tyBool l₀) ∷ []
 
     ends : (k : Bool) (w : Val) (za : List ℕ) (zn : List Node) → Is Boolean k (w ∷ []) → length za ≡ al → length zn ≡ nl
-        → Says fo k → Sq W (Left w za zn) (runs C Λ En code.Mir.t-3 (atRet En Post))
+        → Says fo k za zn → Sq W (Left w za zn) (runs C Λ En code.Mir.t-3 (atRet En Post))
     ends k w za zn is same-length same-nodes said =
         gets ! (of-opd ! (var ! 14 refl)) 30 refl (bool-lawful 𝓤 H A W .typed k _ is .0) $
         returns ! (look ! 30 refl) $
@@ -299,7 +300,7 @@ module _ {M : Type 1} (𝓤 : URA M) (H : Heap 𝓤) (A : Atoms 𝓤) (W : Given
         (atRet (En C Λ l₀ l₁ l₂ l₃ l₄ l₅ l₆ l₇ l₈ l₉ l₁₀ l₁₁ l₁₂) Post) $
         move ! (0 ∷ 3 ∷ 1 ∷ 2 ∷ 4 ∷ 5 ∷ []) $
         ends C Λ l₀ l₁ l₂ l₃ l₄ l₅ l₆ l₇ l₈ l₉ l₁₀ l₁₁ l₁₂ k w za zn is-k same-length same-nodes
-        (query-case fo k left said)))))))))))))))))
+        (query-case fo k za zn left said)))))))))))))))))
 
 module _ {M : Type 1} (𝓤 : URA M) (H : Heap 𝓤) (A : Atoms 𝓤) (W : Given 𝓤 H A) (mm : Memory → SProp 𝓤)
     (run : Routine → Fun 𝓤) where

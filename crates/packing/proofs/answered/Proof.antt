@@ -1,5 +1,5 @@
 -- The number of an answer, by its cases: each is the answer's own number.
-use mathlib.Core.Path.{ap}
+use mathlib.Core.Path.{sym, ap, _∙_}
 use native.Mathlib.Omega.{arith}
 use Rattle.calls.specs.Calls.{answeredNumber}
 use borrow.Author.Needs.{needs}
@@ -67,7 +67,7 @@ returns-5 : tie.Need-returns-5
 returns-5 c = omega (arith, ap answeredNumber (c .before .answer4 .given .1))
 
 returns-6 : tie.Need-returns-6
-returns-6 c = omega (arith, c .refusal .ensures, ap answeredNumber (c .before .before .answer5 .given .1))
+returns-6 c = c .refusal .ensures ∙ sym (ap answeredNumber (c .before .before .answer5 .given .1))
 
 pub answered-spec : {M : Type 1} → statement M
 answered-spec =

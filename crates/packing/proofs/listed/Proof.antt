@@ -1,5 +1,5 @@
 -- The number of a list's answer, by its cases.
-use mathlib.Core.Path.{ap}
+use mathlib.Core.Path.{sym, ap, _∙_}
 use native.Mathlib.Omega.{arith}
 use Rattle.calls.specs.Calls.{listedNumber}
 use borrow.Author.Needs.{needs}
@@ -22,7 +22,7 @@ returns : tie.Need-returns
 returns c = omega (arith, ap listedNumber (c .before .listed .given .1))
 
 returns-2 : tie.Need-returns-2
-returns-2 c = omega (arith, c .refusal .ensures, ap listedNumber (c .before .before .listed2 .given .1))
+returns-2 c = c .refusal .ensures ∙ sym (ap listedNumber (c .before .before .listed2 .given .1))
 
 pub listed-spec : {M : Type 1} → statement M
 listed-spec =

@@ -1,6 +1,5 @@
 -- The number of a verdict, by its cases.
-use mathlib.Core.Path.{ap}
-use native.Mathlib.Omega.{arith}
+use mathlib.Core.Path.{sym, ap, _∙_}
 use Rattle.calls.specs.Calls.{verdictNumber}
 use borrow.Author.Needs.{needs}
 use Rattle.packing.proofs.verdict.Statement.{statement}
@@ -19,7 +18,7 @@ returns : tie.Need-returns
 returns c = search needs
 
 returns-2 : tie.Need-returns-2
-returns-2 c = omega (arith, c .refusal .ensures, ap verdictNumber (c .before .before .verdict .given .1))
+returns-2 c = c .refusal .ensures ∙ sym (ap verdictNumber (c .before .before .verdict .given .1))
 
 pub verdict-spec : {M : Type 1} → statement M
 verdict-spec = tie.close (tie.spec enum-told enum-known-verdict refusal-requires returns returns-2)

@@ -16,19 +16,16 @@ fn compare_one(case: &Case, report: &mut Report) {
     let reference = reference_opinion(&case.image);
     let library = library_opinion(&case.image);
     let construction_agrees = case.expected.is_none_or(|expected| expected == reference);
-    let library_agrees = library.is_none_or(|given| given == reference);
-    if construction_agrees && library_agrees {
+    if construction_agrees && library == reference {
         report.agreed(reference);
     } else {
-        let told = |opinion: Option<Verdict>| match opinion {
-            Some((number, place)) => format!("{number} {place}"),
-            None => "none".to_string(),
-        };
+        let told = |(number, place): Verdict| format!("{number} {place}");
+        let construction = case.expected.map_or("none".to_string(), told);
         report.differed(
             &case.image,
             &[
-                ("construction", told(case.expected)),
-                ("reference", told(Some(reference))),
+                ("construction", construction),
+                ("reference", told(reference)),
                 ("library", told(library)),
                 ("note", case.note.clone()),
             ],
@@ -43,13 +40,7 @@ fn reference_opinion(image: &[u8]) -> Verdict {
     }
 }
 
-#[cfg(probe)]
-fn library_opinion(image: &[u8]) -> Option<Verdict> {
-    let packed = foqtirel_tests::native::check(image);
-    Some(((packed >> 32) as u32, packed as u32))
-}
-
-#[cfg(not(probe))]
-fn library_opinion(_image: &[u8]) -> Option<Verdict> {
-    None
+fn library_opinion(image: &[u8]) -> Verdict {
+    let packed = foqtirel_binding::check(image);
+    ((packed >> 32) as u32, packed as u32)
 }

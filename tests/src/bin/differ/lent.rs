@@ -1,7 +1,7 @@
 //! Tables to lend to a call.
 
+use foqtirel_binding::Node;
 use foqtirel_tests::generator::Random;
-use foqtirel_tests::native::Node;
 
 /// Entries on each side of the table that no call may touch either.
 const MARGIN: usize = 16;

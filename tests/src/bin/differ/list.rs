@@ -1,10 +1,11 @@
-//! The list of arguments: reference and probe, each with its result and the whole table.
+//! The list of arguments: reference and library, each with its result and the whole table.
 
+use foqtirel_binding as library;
 use foqtirel_tests::generator::accepted::small_programs;
 use foqtirel_tests::generator::{accepted, damaged, many_arguments, Case, Random, MANY_ARGUMENTS};
 use foqtirel_tests::reference::image::defeasible_rules;
 use foqtirel_tests::reference::{Analysis, Refusal};
-use foqtirel_tests::{native, vectors};
+use foqtirel_tests::vectors;
 
 use crate::images::Source;
 use crate::lent;
@@ -82,7 +83,7 @@ fn compare_call(
         Ok(analysis) => analysis.list(by_reference.table()),
         Err(refusal) => Err(*refusal),
     });
-    let given = native::list(image, by_library.table());
+    let given = library::list(image, by_library.table());
     let place = by_library.first_difference(&by_reference);
     if given == wanted && place.is_none() {
         report.agreed(wanted, length);

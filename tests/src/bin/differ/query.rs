@@ -4,9 +4,9 @@
 //! The product of literals, budgets and lengths is too large, so a program with many defeasible
 //! rules, which every call reads anew, is asked about fewer literals; each with all its budgets.
 
+use foqtirel_binding as library;
 use foqtirel_tests::generator::accepted::{contested_programs, small_programs};
 use foqtirel_tests::generator::{accepted, damaged, Case, Random};
-use foqtirel_tests::native;
 use foqtirel_tests::reference::tree::{Forest, NodeEntry};
 use foqtirel_tests::reference::{
     host_number, Analysis, Answer, Argument, Literal, Refusal, MOST_NODES,
@@ -34,9 +34,6 @@ const AT_RANDOM: usize = 4;
 /// One call in so many gets a table that is too short.
 const SHORT_EVERY: usize = 7;
 const MOST: u32 = MOST_NODES as u32;
-/// Vectors and literals with exactly as many nodes as the greatest budget, with one more, and with
-/// the longest line.
-const EXTREMES: [(&str, u32); 3] = [("n4096", 20), ("n4097", 28), ("deep180", 22)];
 
 pub fn compare(seed: u64, report: &mut QueryReport) {
     let mut random = Random::seeded(seed ^ 0x7175_6572);
@@ -51,7 +48,7 @@ pub fn compare(seed: u64, report: &mut QueryReport) {
     for image in vectors::images() {
         compare_image(Source::Vector, &image, &mut random, report);
     }
-    for (name, literal) in EXTREMES {
+    for (name, literal) in vectors::EXTREMES {
         let image = vectors::image(name);
         let analysis = Analysis::of_image(&image);
         let asked = Asked::new(&image, &analysis, &mut random);
@@ -288,7 +285,7 @@ impl<'a> Asked<'a> {
             wanted_arguments.table(),
             wanted_nodes.table(),
         );
-        let given = native::query(
+        let given = library::trees(
             self.image,
             subject.literal,
             room.budget,
@@ -325,7 +322,7 @@ impl<'a> Asked<'a> {
         let mut arguments = vec![0; MOST_NODES];
         let mut nodes = vec![NodeEntry::default(); MOST_NODES];
         let wanted = self.wanted(subject, budget, &mut arguments, &mut nodes);
-        let given = native::host_query(self.image, subject.literal, budget);
+        let given = library::query(self.image, subject.literal, budget);
         if given == host_number(wanted) {
             report.host_agreed(wanted);
             return given;

@@ -1,0 +1,168 @@
+//! The calls of `include/foqtirel.h` for Rust: safe functions over slices, and their results taken apart.
+//!
+//! Each function returns the number that the C call returns: 64 bits from `check`, `list` and `trees`, which
+//! [`granted`] and [`answered_with_trees`] take apart, and 32 bits from `query`, which are for [`answered`].
+
+pub mod raw;
+
+use std::path::Path;
+
+/// A node entry as it lies in the lent table, with two bytes of padding.
+#[repr(C)]
+#[derive(Clone, Copy, Debug, Default, PartialEq, Eq)]
+pub struct Node {
+    /// Index in the argument list.
+    pub argument: u32,
+    /// The parent's number; a root names itself.
+    pub parent: u32,
+    /// 0 root, 1 proper, 2 blocking.
+    pub kind: u8,
+    /// 1 U, 2 D.
+    pub mark: u8,
+}
+
+const _: () = assert!(std::mem::size_of::<Node>() == 12);
+
+impl Node {
+    pub fn undefeated(&self) -> bool {
+        self.mark == 1
+    }
+}
+
+/// Why a call was turned away, and the number of the rule or pair that it is about, 0 where it is about neither.
+#[derive(Clone, Copy, Debug, PartialEq, Eq)]
+pub struct Refusal {
+    pub number: u32,
+    pub place: u32,
+}
+
+/// The code of an answer, with its number of nodes.
+#[derive(Clone, Copy, Debug, PartialEq, Eq)]
+pub struct Answer {
+    pub code: u32,
+    pub nodes: u32,
+}
+
+impl Answer {
+    fn from_number(number: u32) -> Answer {
+        Answer {
+            code: number >> 16,
+            nodes: number & 65_535,
+        }
+    }
+}
+
+/// The number in a result of `check`, `list` or `trees`. A refusal has its own in the upper half, which is 0 otherwise.
+pub fn granted(result: u64) -> Result<u32, Refusal> {
+    match (result >> 32) as u32 {
+        0 => Ok(result as u32),
+        number => Err(Refusal {
+            number,
+            place: result as u32,
+        }),
+    }
+}
+
+/// The answer in a result of `trees`.
+pub fn answered_with_trees(result: u64) -> Result<Answer, Refusal> {
+    granted(result).map(Answer::from_number)
+}
+
+/// The answer in a result of `query`, or the bare number of a refusal.
+pub fn answered(result: u32) -> Result<Answer, u32> {
+    match Answer::from_number(result) {
+        Answer { code: 0, nodes } => Err(nodes),
+        answer => Ok(answer),
+    }
+}
+
+/// 0 for an accepted image, otherwise number × 2^32 + place.
+pub fn check(image: &[u8]) -> u64 {
+    // SAFETY: the pointer and the length are the slice's own.
+    unsafe { raw::foqtirel_check(image.as_ptr(), image.len()) }
+}
+
+/// The number of arguments, or number × 2^32 + place.
+pub fn list(image: &[u8], arguments: &mut [u32]) -> u64 {
+    let (table, room) = (arguments.as_mut_ptr(), arguments.len());
+    // SAFETY: the pointers and lengths are the slices' own.
+    unsafe { raw::foqtirel_list(image.as_ptr(), image.len(), table, room) }
+}
+
+/// Code × 2^16 + nodes, or number × 2^32 + place.
+pub fn trees(
+    image: &[u8],
+    literal: u32,
+    budget: u32,
+    arguments: &mut [u32],
+    nodes: &mut [Node],
+) -> u64 {
+    // SAFETY: the pointers and lengths are the slices' own.
+    unsafe {
+        raw::foqtirel_trees(
+            image.as_ptr(),
+            image.len(),
+            literal,
+            budget,
+            arguments.as_mut_ptr(),
+            arguments.len(),
+            nodes.as_mut_ptr(),
+            nodes.len(),
+        )
+    }
+}
+
+/// Code × 2^16 + nodes, or the bare number of a refusal.
+pub fn query(image: &[u8], literal: u32, budget: u32) -> u32 {
+    // SAFETY: the pointer and the length are the slice's own.
+    unsafe { raw::foqtirel_query(image.as_ptr(), image.len(), literal, budget) }
+}
+
+/// The archive that is linked, for whoever links or looks at it by other means.
+pub fn library() -> &'static Path {
+    Path::new(env!("FOQTIREL_LIBRARY"))
+}
+
+#[cfg(test)]
+mod tests {
+    use super::*;
+
+    const REFUSED: Refusal = Refusal {
+        number: 10,
+        place: 3,
+    };
+    const YES: Answer = Answer { code: 1, nodes: 3 };
+
+    #[test]
+    fn results_of_64_bits() {
+        assert_eq!(granted(0), Ok(0));
+        assert_eq!(granted(78_057), Ok(78_057));
+        assert_eq!(granted((10 << 32) + 3), Err(REFUSED));
+        assert_eq!(answered_with_trees((1 << 16) + 3), Ok(YES));
+        assert_eq!(answered_with_trees((10 << 32) + 3), Err(REFUSED));
+    }
+
+    #[test]
+    fn results_of_32_bits() {
+        assert_eq!(answered((1 << 16) + 3), Ok(YES));
+        assert_eq!(answered(4 << 16), Ok(Answer { code: 4, nodes: 0 }));
+        assert_eq!(answered(23), Err(23));
+    }
+
+    /// A fact, by every call.
+    #[test]
+    fn calls_on_an_image() {
+        let image = [1, 0, 1, 0, 0, 0, 0, 0, 16, 0, 2, 0, 18, 0, 0, 0, 0, 1];
+        let mut arguments = [7; 2];
+        let mut nodes = [Node::default(); 2];
+        assert_eq!(granted(check(&image)), Ok(0));
+        assert_eq!(granted(list(&image, &mut arguments)), Ok(1));
+        assert_eq!(arguments, [1, 7]);
+        let answer = Answer { code: 2, nodes: 1 };
+        let result = trees(&image, 0, 2, &mut arguments, &mut nodes);
+        assert_eq!(answered_with_trees(result), Ok(answer));
+        assert_eq!(answered(query(&image, 0, 2)), Ok(answer));
+        assert!(nodes[0].undefeated() && !nodes[1].undefeated());
+        assert!(granted(check(&image[1..])).is_err());
+    }
+}

@@ -1,0 +1,44 @@
+//! The C calls as `include/foqtirel.h` declares them, for tables that are not initialised and for null pointers.
+//!
+//! # Safety
+//! Of each call: a pointer goes with its number of bytes or entries and may be null where that is 0. The image is
+//! readable and stays as it is during the call, the tables are writable and apart from it and from each other. They
+//! may hold anything, and an entry that the result doesn't name is as it was afterwards.
+
+use crate::Node;
+
+#[link(name = "foqtirel", kind = "static")]
+extern "C" {
+    /// 0 for an accepted image, otherwise number × 2^32 + place.
+    ///
+    /// # Safety
+    /// See [the module](self).
+    pub fn foqtirel_check(image: *const u8, length: usize) -> u64;
+
+    /// The number of arguments, or number × 2^32 + place.
+    ///
+    /// # Safety
+    /// See [the module](self).
+    pub fn foqtirel_list(image: *const u8, length: usize, arguments: *mut u32, room: usize) -> u64;
+
+    /// Code × 2^16 + nodes, or number × 2^32 + place.
+    ///
+    /// # Safety
+    /// See [the module](self).
+    pub fn foqtirel_trees(
+        image: *const u8,
+        length: usize,
+        literal: u32,
+        budget: u32,
+        arguments: *mut u32,
+        room: usize,
+        nodes: *mut Node,
+        node_room: usize,
+    ) -> u64;
+
+    /// Code × 2^16 + nodes, or the bare number of a refusal.
+    ///
+    /// # Safety
+    /// See [the module](self).
+    pub fn foqtirel_query(image: *const u8, length: usize, literal: u32, budget: u32) -> u32;
+}

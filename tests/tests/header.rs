@@ -1,0 +1,136 @@
+//! The header as a C programmer uses it: its numbers, its macros on every kind of result, its struct; and what the
+//! library offers and needs.
+
+use std::fs;
+use std::path::{Path, PathBuf};
+use std::process::Command;
+
+use foqtirel_binding::library;
+use foqtirel_tests::compiler::{
+    assert_success, c_compilation, cpp_compilation, run, shared_library,
+};
+use foqtirel_tests::header::constants;
+use foqtirel_tests::reference::{Cause, Code, MOST_NODES};
+
+fn temporary(name: &str) -> PathBuf {
+    Path::new(env!("CARGO_TARGET_TMPDIR")).join(name)
+}
+
+/// `ImageLength` as `IMAGE_LENGTH`.
+fn in_capitals(name: &str) -> String {
+    let mut capitals = String::new();
+    for (position, letter) in name.char_indices() {
+        if position > 0 && letter.is_uppercase() {
+            capitals.push('_');
+        }
+        capitals.extend(letter.to_uppercase());
+    }
+    capitals
+}
+
+#[test]
+fn the_header_has_the_numbers() {
+    let header = constants();
+    let number = |name: &str| header.get(name).copied();
+    for cause in Cause::ALL {
+        let name = in_capitals(&format!("{cause:?}"));
+        assert_eq!(number(&name), Some(cause.number() as usize), "{name}");
+    }
+    for code in [
+        Code::Yes,
+        Code::No,
+        Code::Undecided,
+        Code::Unknown,
+        Code::Unfinished,
+    ] {
+        assert_eq!(number(code.word()), Some(code.number() as usize));
+    }
+    assert_eq!(number("MOST_NODES"), Some(MOST_NODES));
+    assert_eq!(number("ARGUMENTS"), Some(MOST_NODES));
+    assert_eq!(number("LITERALS"), Some(128));
+    assert_eq!(number("LEAST_IMAGE"), Some(12));
+    assert_eq!(number("MOST_IMAGE"), Some(1836));
+}
+
+/// As C and, where there is a compiler for it, as C++.
+#[test]
+fn every_macro_on_every_result() {
+    let source = Path::new(env!("CARGO_MANIFEST_DIR")).join("tests/macros.c");
+    let program = temporary("macros");
+    assert_success(&mut c_compilation(&source, &program));
+    assert_success(&mut Command::new(&program));
+    let as_cpp = temporary("macros.cpp");
+    fs::copy(&source, &as_cpp).expect("a copy");
+    let program = temporary("macros_cpp");
+    match cpp_compilation(&as_cpp, &program) {
+        Some(mut compiler) => {
+            assert_success(&mut compiler);
+            assert_success(&mut Command::new(&program));
+        }
+        None => println!("no C++ compiler: the header was not compiled as C++"),
+    }
+}
+
+/// What takes 64 bits apart doesn't take the 32 of `foqtirel_query`, whose refusals would pass for answers there.
+#[test]
+fn results_of_32_bits_do_not_pass_for_64() {
+    let source = temporary("narrow.c");
+    let compiles = |result: &str, name: &str| {
+        let text = format!(
+            "#include \"foqtirel.h\"\nint main(void)\n{{\n    return (int)FOQTIREL_{name}64({result});\n}}\n"
+        );
+        fs::write(&source, text).expect("a source");
+        run(&mut c_compilation(&source, &temporary("narrow")))
+            .status
+            .success()
+    };
+    for name in ["REFUSED", "NUMBER", "PLACE", "COUNT", "CODE", "NODES"] {
+        assert!(compiles("foqtirel_check(NULL, 0)", name), "{name}");
+        assert!(!compiles("foqtirel_query(NULL, 0, 0, 0)", name), "{name}");
+    }
+}
+
+/// The calls, in the order of their names.
+const CALLS: [&str; 4] = [
+    "foqtirel_check",
+    "foqtirel_list",
+    "foqtirel_query",
+    "foqtirel_trees",
+];
+
+/// What a library offers and what it needs, by `nm`.
+fn symbols(nm: &mut Command) -> (Vec<String>, Vec<String>) {
+    let output = assert_success(nm);
+    let printed = String::from_utf8_lossy(&output.stdout).into_owned();
+    let (mut offered, mut needed) = (Vec::new(), Vec::new());
+    for line in printed.lines() {
+        match line.split_whitespace().collect::<Vec<_>>()[..] {
+            ["U", name] => needed.push(name.to_string()),
+            [_, _, name] => offered.push(name.to_string()),
+            _ => {}
+        }
+    }
+    offered.sort();
+    (offered, needed)
+}
+
+/// The library asks for the memory functions of a C library only, and offers the calls only.
+#[test]
+fn the_library_needs_no_more_than_the_header_says() {
+    let (offered, needed) = symbols(Command::new("nm").arg("-g").arg(library()));
+    assert_eq!(offered, CALLS);
+    for name in needed {
+        let memory = ["memset", "memcpy", "memmove", "memcmp"].contains(&name.as_str());
+        assert!(memory, "the library needs {name}");
+    }
+}
+
+/// So does the shared library, and it is loaded as it is: no part of its code has to be written to.
+#[test]
+fn a_shared_library_offers_the_calls() {
+    let shared = shared_library(Path::new(env!("CARGO_TARGET_TMPDIR")));
+    let (offered, _) = symbols(Command::new("nm").arg("-D").arg(&shared));
+    assert_eq!(offered, CALLS);
+    let output = assert_success(Command::new("readelf").arg("-d").arg(&shared));
+    assert!(!String::from_utf8_lossy(&output.stdout).contains("TEXTREL"));
+}

@@ -1,0 +1,168 @@
+/* Every macro of the header on every kind of result, from the calls and from numbers. Says which line is wrong. */
+#include <stdio.h>
+
+#include "foqtirel.h"
+#include "foqtirel.h"
+
+#define DEMAND(holds)        \
+    do {                     \
+        if (!(holds)) {      \
+            return __LINE__; \
+        }                    \
+    } while (0)
+
+/* The program F of the vectors: 0, d 2<0, d 3<0, the first beats the second. */
+static const uint8_t image[] = {2, 0, 3, 0, 1, 0, 0, 0, 24, 0, 2, 0, 26, 0, 3, 0, 29,
+                                0, 3, 0, 32, 0, 2, 0, 0, 0, 1, 2, 0, 1, 3, 0, 1, 2};
+/* The same with the kind of rule 2 out of range. */
+static uint8_t damaged[sizeof image];
+
+static uint32_t arguments[FOQTIREL_ARGUMENTS];
+static struct foqtirel_node nodes[FOQTIREL_MOST_NODES];
+static int asked;
+
+static uint64_t trees(uint32_t literal, uint32_t budget, size_t room, size_t node_room)
+{
+    asked++;
+    return foqtirel_trees(image, sizeof image, literal, budget, arguments, room, nodes, node_room);
+}
+
+static uint32_t query(uint32_t literal, uint32_t budget)
+{
+    asked++;
+    return foqtirel_query(image, sizeof image, literal, budget);
+}
+
+static int results_of_check(void)
+{
+    uint64_t result = foqtirel_check(image, sizeof image);
+
+    DEMAND(result == 0 && !FOQTIREL_REFUSED64(result) && FOQTIREL_NUMBER64(result) == 0u);
+    result = foqtirel_check(damaged, sizeof damaged);
+    DEMAND(FOQTIREL_REFUSED64(result) && FOQTIREL_NUMBER64(result) == FOQTIREL_RULE_KIND);
+    DEMAND(FOQTIREL_PLACE64(result) == 2u && FOQTIREL_CODE64(result) == 0u);
+    result = foqtirel_check(NULL, 0);
+    DEMAND(FOQTIREL_REFUSED64(result) && FOQTIREL_NUMBER64(result) == FOQTIREL_IMAGE_LENGTH);
+    DEMAND(FOQTIREL_PLACE64(result) == 0u);
+    return 0;
+}
+
+static int results_of_list(void)
+{
+    uint64_t result = foqtirel_list(image, sizeof image, arguments, 3);
+
+    DEMAND(!FOQTIREL_REFUSED64(result) && FOQTIREL_NUMBER64(result) == 0u && FOQTIREL_COUNT64(result) == 3u);
+    DEMAND(FOQTIREL_MASK(arguments[0]) == 0u && FOQTIREL_LITERAL(arguments[0]) == 0u);
+    DEMAND(FOQTIREL_MASK(arguments[1]) == 1u && FOQTIREL_LITERAL(arguments[1]) == 2u);
+    DEMAND(FOQTIREL_MASK(arguments[2]) == 2u && FOQTIREL_LITERAL(arguments[2]) == 3u);
+    DEMAND(FOQTIREL_MASK(65535u * 128u + 127u) == 65535u && FOQTIREL_LITERAL(65535u * 128u + 127u) == 127u);
+    result = foqtirel_list(image, sizeof image, NULL, 0);
+    DEMAND(FOQTIREL_REFUSED64(result) && FOQTIREL_NUMBER64(result) == FOQTIREL_ARGUMENT_TABLE);
+    DEMAND(FOQTIREL_PLACE64(result) == 0u);
+    DEMAND(FOQTIREL_COUNT64((uint64_t)100000u) == 100000u && !FOQTIREL_REFUSED64((uint64_t)100000u));
+    return 0;
+}
+
+static int results_of_trees(void)
+{
+    uint64_t result = trees(2, 3, 3, 3);
+
+    DEMAND(!FOQTIREL_REFUSED64(result) && FOQTIREL_NUMBER64(result) == 0u);
+    DEMAND(FOQTIREL_CODE64(result) == FOQTIREL_YES && FOQTIREL_NODES64(result) == 3u);
+    DEMAND(nodes[0].kind == FOQTIREL_ROOT && nodes[0].mark == FOQTIREL_UNDEFEATED && nodes[0].parent == 0u);
+    DEMAND(nodes[1].kind == FOQTIREL_ROOT && nodes[1].mark == FOQTIREL_DEFEATED && nodes[1].parent == 1u);
+    DEMAND(nodes[2].kind == FOQTIREL_PROPER && nodes[2].mark == FOQTIREL_UNDEFEATED && nodes[2].parent == 1u);
+    DEMAND(nodes[0].argument == 1u && nodes[1].argument == 2u && nodes[2].argument == 1u);
+    result = trees(3, 4096, 3, 4096);
+    DEMAND(!FOQTIREL_REFUSED64(result) && FOQTIREL_CODE64(result) == FOQTIREL_NO && FOQTIREL_NODES64(result) == 3u);
+    result = trees(100, 0, 3, 0);
+    DEMAND(!FOQTIREL_REFUSED64(result) && FOQTIREL_CODE64(result) == FOQTIREL_UNKNOWN && FOQTIREL_NODES64(result) == 0u);
+    result = trees(2, 2, 3, 2);
+    DEMAND(!FOQTIREL_REFUSED64(result) && FOQTIREL_CODE64(result) == FOQTIREL_UNFINISHED);
+    DEMAND(FOQTIREL_NODES64(result) == 2u && nodes[0].argument == 0u && nodes[1].mark == 0u);
+    result = FOQTIREL_UNDECIDED * (uint64_t)65536u + FOQTIREL_MOST_NODES;
+    DEMAND(!FOQTIREL_REFUSED64(result) && FOQTIREL_CODE64(result) == FOQTIREL_UNDECIDED);
+    DEMAND(FOQTIREL_NODES64(result) == FOQTIREL_MOST_NODES);
+    result = trees(FOQTIREL_LITERALS, 0, 3, 0);
+    DEMAND(FOQTIREL_REFUSED64(result) && FOQTIREL_NUMBER64(result) == FOQTIREL_QUERY_LITERAL);
+    DEMAND(FOQTIREL_CODE64(result) == 0u && FOQTIREL_PLACE64(result) == 0u);
+    result = trees(2, FOQTIREL_MOST_NODES + 1u, 3, FOQTIREL_MOST_NODES);
+    DEMAND(FOQTIREL_REFUSED64(result) && FOQTIREL_NUMBER64(result) == FOQTIREL_BUDGET);
+    result = trees(2, 3, 3, 2);
+    DEMAND(FOQTIREL_REFUSED64(result) && FOQTIREL_NUMBER64(result) == FOQTIREL_NODE_TABLE);
+    result = trees(2, 3, 2, 3);
+    DEMAND(FOQTIREL_REFUSED64(result) && FOQTIREL_NUMBER64(result) == FOQTIREL_ARGUMENT_TABLE);
+    return 0;
+}
+
+static int results_of_query(void)
+{
+    uint32_t result = query(2, FOQTIREL_MOST_NODES);
+
+    DEMAND(!FOQTIREL_REFUSED(result) && FOQTIREL_CODE(result) == FOQTIREL_YES && FOQTIREL_NODES(result) == 3u);
+    result = query(3, 3);
+    DEMAND(!FOQTIREL_REFUSED(result) && FOQTIREL_CODE(result) == FOQTIREL_NO && FOQTIREL_NODES(result) == 3u);
+    result = query(100, 0);
+    DEMAND(!FOQTIREL_REFUSED(result) && FOQTIREL_CODE(result) == FOQTIREL_UNKNOWN && FOQTIREL_NODES(result) == 0u);
+    result = query(2, 2);
+    DEMAND(!FOQTIREL_REFUSED(result) && FOQTIREL_CODE(result) == FOQTIREL_UNFINISHED && FOQTIREL_NODES(result) == 2u);
+    result = 3u * 65536u + 7u;
+    DEMAND(!FOQTIREL_REFUSED(result) && FOQTIREL_CODE(result) == FOQTIREL_UNDECIDED && FOQTIREL_NODES(result) == 7u);
+    result = query(128, 0);
+    DEMAND(FOQTIREL_REFUSED(result) && result == FOQTIREL_QUERY_LITERAL && FOQTIREL_CODE(result) == 0u);
+    result = foqtirel_query(NULL, 0, 2, FOQTIREL_MOST_NODES);
+    DEMAND(FOQTIREL_REFUSED(result) && result == FOQTIREL_IMAGE_LENGTH && FOQTIREL_CODE(result) == 0u);
+    return 0;
+}
+
+/* Each macro asks for its argument once. */
+static int arguments_once(void)
+{
+    uint32_t entry[2];
+    const uint32_t *at = entry;
+
+    entry[0] = 259u;
+    entry[1] = 0u;
+    asked = 0;
+    DEMAND(!FOQTIREL_REFUSED64(trees(2, 3, 3, 3)) && asked == 1);
+    DEMAND(FOQTIREL_NUMBER64(trees(2, 3, 3, 3)) == 0u && asked == 2);
+    DEMAND(FOQTIREL_PLACE64(trees(128, 3, 3, 3)) == 0u && asked == 3);
+    DEMAND(FOQTIREL_COUNT64(trees(100, 0, 3, 0)) == 4u * 65536u && asked == 4);
+    DEMAND(FOQTIREL_CODE64(trees(2, 3, 3, 3)) == FOQTIREL_YES && asked == 5);
+    DEMAND(FOQTIREL_NODES64(trees(2, 3, 3, 3)) == 3u && asked == 6);
+    DEMAND(!FOQTIREL_REFUSED(query(2, 3)) && asked == 7);
+    DEMAND(FOQTIREL_CODE(query(2, 3)) == FOQTIREL_YES && asked == 8);
+    DEMAND(FOQTIREL_NODES(query(2, 3)) == 3u && asked == 9);
+    DEMAND(FOQTIREL_MASK(*at++) == 2u && at == entry + 1);
+    at = entry;
+    DEMAND(FOQTIREL_LITERAL(*at++) == 3u && at == entry + 1);
+    return 0;
+}
+
+static int layout_of_a_node(void)
+{
+    DEMAND(sizeof(struct foqtirel_node) == 12 && offsetof(struct foqtirel_node, parent) == 4);
+    DEMAND(offsetof(struct foqtirel_node, kind) == 8 && offsetof(struct foqtirel_node, mark) == 9);
+    return 0;
+}
+
+int main(void)
+{
+    size_t i;
+    int line;
+
+    for (i = 0; i < sizeof image; i++) {
+        damaged[i] = image[i];
+    }
+    damaged[29] = 7;
+    line = layout_of_a_node();
+    line = line != 0 ? line : results_of_check();
+    line = line != 0 ? line : results_of_list();
+    line = line != 0 ? line : results_of_trees();
+    line = line != 0 ? line : results_of_query();
+    line = line != 0 ? line : arguments_once();
+    if (line != 0) {
+        fprintf(stderr, "line %d\n", line);
+    }
+    return line != 0;
+}
