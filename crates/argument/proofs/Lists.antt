@@ -1,19 +1,20 @@
 -- The argument list holds the arguments and nothing else, each once, ascending; and no other list does.
 use mathlib.Core.Path.{_≡_, sym, ap, ap₂, _∙_, subst, subst₂}
 use mathlib.Core.Bool.{Bool, true, false}
-use mathlib.Core.List.{List, [], _∷_, _++_, List·Memᴰ, List·Memᴰ·not-nil, List·Memᴰ·cases-cons, List·Memᴰ·append-cases, Memᴰ·append-left, Memᴰ·append-right}
+use mathlib.Core.List.{List, _++_, List·Memᴰ, List·Memᴰ·not-nil, List·Memᴰ·append-cases, Memᴰ·append-left, Memᴰ·append-right}
 use mathlib.Core.Logic.{_⊎_, inl, inr, ⊎-elim, _↔_}
 use Prim.Native.Nat.{ℕ, zero, suc, _+_, _*_, _^_, _<_, _≤_}
 use native.Mathlib.Nat.{eq-or-lt-of-le}
 use native.Mathlib.Omega.{arith}
-use Rattle.lists.specs.Lists.{keep, Ascending, Within}
+use lib.ListN.{length}
+use Rattle.lists.specs.Lists.{keep, Ascending, Ascends, Within}
 use Rattle.lists.proofs.Lists.{T-true, keep-head, keep-tail, keep-cases}
-use Rattle.lists.proofs.Orders.{ascending-same}
+use Rattle.lists.proofs.Orders.{ascends-from, ascends-append, ascends-length, ascends-ascending, ascending-same}
 use Rattle.literals.proofs.Tests.{true-T}
 use Rattle.program.specs.Program.{Rule, defeasibles}
 use Rattle.derivation.specs.Derivation.{HeadsBelow}
 use Rattle.argument.specs.Argument.{Argument, maskOf, literalOf, ArgumentList}
-use Rattle.argument.specs.List.{isArgument, picked, listBy, argumentList, Ascends}
+use Rattle.argument.specs.List.{isArgument, picked, listBy, argumentList}
 use Rattle.argument.proofs.Minimal.{argument-mask-below, argument-literal-below, isArgument-sound, isArgument-complete}
 
 -- what is picked: the numbers that pass
@@ -87,34 +88,7 @@ module _ (test : ℕ → ℕ → Bool) where
           (passed-picked (test k) (k * 128) 0 128 (literalOf x) (omega arith) (omega arith) (ap (λ (y : ℕ). test y (literalOf x)) q ∙ t)))
       go (inr q) f = Memᴰ·append-right first (f q)
 
--- lists that ascend
-ascends-from : (l : List ℕ) (a low high : ℕ) → a ≤ low → Ascends low high l → Ascends a high l
-ascends-from [] a low high h c = omega arith
-ascends-from (x ∷ l) a low high h c = let k = c .0 in (omega arith, c .1, c .2)
-
-ascends-le : (l : List ℕ) (low high : ℕ) → Ascends low high l → low ≤ high
-ascends-le [] low high c = c
-ascends-le (x ∷ l) low high c = let a = c .0 in let b = c .1 in omega arith
-
-ascends-append : (l k : List ℕ) (low middle high : ℕ) → Ascends low middle l → Ascends middle high k → Ascends low high (l ++ k)
-ascends-append [] k low middle high a b = ascends-from k low middle high a b
-ascends-append (x ∷ l) k low middle high a b =
-    let p = a .1 in
-    let q = ascends-le k middle high b in
-    (a .0, omega arith, ascends-append l k (suc x) middle high (a .2) b)
-
-pub ascends-low : (l : List ℕ) (low high z : ℕ) → Ascends low high l → List·Memᴰ z l → low ≤ z
-ascends-low [] low high z a i = absurd (List·Memᴰ·not-nil i)
-ascends-low (x ∷ l) low high z a i =
-    let b = a .0 in
-    ⊎-elim (λ e. omega arith) (λ j. omega (arith, ascends-low l (suc x) high z (a .2) j)) (List·Memᴰ·cases-cons i)
-
--- within any bounds
-pub ascends-ascending : (l : List ℕ) (low high : ℕ) → Ascends low high l → Ascending l
-ascends-ascending [] low high a = tt
-ascends-ascending (x ∷ l) low high a =
-    (λ y i. omega (arith, ascends-low l (suc x) high y (a .2) i), ascends-ascending l (suc x) high (a .2))
-
+-- they ascend
 pub picked-ascends : (test : ℕ → Bool) (base k n : ℕ) → Ascends (base + k) (base + (k + n)) (picked test base k n)
 unfolding picked
 picked-ascends test base k zero = omega arith
@@ -148,6 +122,12 @@ list-ascends rules =
     subst (λ (x : ℕ). Ascends 0 x (listBy (isArgument rules) 0 (2 ^ defeasibles rules))) (omega arith)
     (listed-ascends (isArgument rules) 0 (2 ^ defeasibles rules))
 
+pub list-ascending : (rules : List Rule) → Ascending (argumentList rules)
+list-ascending rules = ascends-ascending (argumentList rules) 0 (2 ^ defeasibles rules * 128) (list-ascends rules)
+
+pub list-length : (rules : List Rule) → length (argumentList rules) ≤ 2 ^ defeasibles rules * 128
+list-length rules = omega (arith, ascends-length (argumentList rules) 0 (2 ^ defeasibles rules * 128) (list-ascends rules))
+
 module _ (rules : List Rule) (heads : HeadsBelow 128 rules) where
   pub list-sound : (x : ℕ) → List·Memᴰ x (argumentList rules) → Argument rules (maskOf x) (literalOf x)
   unfolding argumentList
@@ -176,7 +156,7 @@ module _ (rules : List Rule) (heads : HeadsBelow 128 rules) where
   list-is = record {
     each-is-one = list-sound;
     has-each = argument-listed;
-    ascends = ascends-ascending (argumentList rules) 0 (2 ^ defeasibles rules * 128) (list-ascends rules);
+    ascends = list-ascending rules;
   }
 
   -- an argument's number is an entry
@@ -192,7 +172,7 @@ module _ (rules : List Rule) (heads : HeadsBelow 128 rules) where
   pub list-published : (l : List ℕ) → ArgumentList rules l ↔ (l ≡ argumentList rules)
   list-published l = (
     λ a.
-        ascending-same l (argumentList rules) (a .ascends) (list-is .ascends)
+        ascending-same l (argumentList rules) (a .ascends) (list-ascending rules)
         (lists-within l (argumentList rules) a list-is) (lists-within (argumentList rules) l list-is a),
     λ e. subst (ArgumentList rules) (sym e) list-is,
   )

@@ -1,7 +1,7 @@
--- The argument list, computed. Assumes nothing.
+-- The argument list, computed.
 use mathlib.Core.Bool.{Bool, true, not, _&&_}
-use mathlib.Core.List.{List, [], _∷_, _++_}
-use Prim.Native.Nat.{ℕ, zero, suc, _+_, _*_, _^_, _<_, _≤_}
+use mathlib.Core.List.{List, [], _++_}
+use Prim.Native.Nat.{ℕ, zero, suc, _+_, _*_, _^_}
 use Rattle.lists.specs.Lists.{keep}
 use Rattle.literals.specs.Sets.{has, minus, clashBelow}
 use Rattle.program.specs.Program.{Rule, Π-mask, chosenFrom, defeasibles, defeasiblesFrom}
@@ -38,8 +38,3 @@ listBy test k (suc n) = picked (test k) (k * 128) 0 128 ++ listBy test (suc k) n
 unfoldable pub argumentList : List Rule → List ℕ
 unfolding listBy isArgument defeasiblesFrom
 argumentList rules = listBy (isArgument rules) 0 (2 ^ defeasibles rules)
-
--- strictly ascending, from low on and below high
-abbrev pub Ascends : ℕ → ℕ → List ℕ → Type 0
-Ascends low high [] = low ≤ high
-Ascends low high (x ∷ l) = (low ≤ x) × (x < high) × Ascends (suc x) high l

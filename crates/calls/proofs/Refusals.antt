@@ -1,17 +1,16 @@
--- A call is turned away by listed causes only, and what an accepted one is known to fit. Assumes nothing.
-use mathlib.Core.Path.{_≡_, refl}
-use mathlib.Core.Bool.{Bool, true, false, _&&_, _||_}
-use mathlib.Core.List.{List, [], _∷_}
-use mathlib.Core.Logic.{_⊎_}
-use Prim.Native.Nat.{ℕ, zero, suc, _≤_, _<_}
+-- A call is turned away by listed causes only, by one that applies, and where one does; and what an accepted call fits.
+use mathlib.Core.Path.{_≡_, refl, sym, ap, _∙_, subst₂}
+use mathlib.Core.Bool.{Bool, true, false, _&&_, false≢true}
+use mathlib.Core.List.{List}
+use mathlib.Core.Logic.{_↔_}
+use Prim.Native.Nat.{ℕ, zero, suc, _+_, _≤_, _<_}
 use native.Mathlib.Omega.{arith}
 use lib.ListN.{length}
-use lib.Dec.{T, eqb, ltb, leb, leb→le, le→leb, nltb→le, nleb→lt}
-use Rattle.lists.specs.Decides.{Decides}
-use Rattle.lists.specs.Lists.{filter, upto}
-use Rattle.lists.proofs.Lists.{or-left}
-use Rattle.lists.proofs.Decides.{decides-and, decides-or}
-use Rattle.program.specs.Program.{Π}
+use lib.Dec.{T, ltb, leb, leb→le, ltb→lt, nltb→le, nleb→lt}
+use Rattle.lists.proofs.Lists.{T-true, and-both}
+use Rattle.literals.proofs.Tests.{not-true-false}
+use Rattle.program.specs.Program.{Program, Π}
+use Rattle.program.specs.Limits.{Limits}
 use Rattle.layout.specs.declared.Verdict.{Verdict}
 use Rattle.layout.specs.declared.Verdict.the-variants.{Accepted, Refused}
 use Rattle.layout.specs.Layout.{atomsOf, rulesOf, pairsOf, partOf, kindByte}
@@ -20,122 +19,48 @@ use Rattle.layout.specs.Causes.{badBody, badEmpty}
 use Rattle.layout.specs.Causes.{badSeventeenth, badRepeat, badPairs, badPair, badOrder, countKind}
 use Rattle.layout.specs.Causes.{partVerdict, ruleVerdict, rulesVerdict, pairVerdict, pairsVerdict, verdict}
 use Rattle.layout.specs.Reading.{programIn}
+use Rattle.layout.proofs.Directory.{neither-left, neither-right}
+use Rattle.image.proofs.Accepted.{accepted-limits}
+use Rattle.derivation.specs.Derivation.{Contradictory, HeadsBelow}
 use Rattle.derivation.specs.Closure.{contradictory}
-use Rattle.calls.specs.Calls.{checkImage, listIn, listVerdict, queryVerdict}
+use Rattle.derivation.proofs.Contradictions.{contradictory-sound, contradictory-complete}
+use Rattle.derivation.proofs.Choices.{Π-with-rules}
+use Rattle.argument.proofs.Lists.{list-is, list-published}
+use Rattle.calls.specs.Calls.{checkImage, listIn, listVerdict, queryVerdict, Asked, Call, asked, verdictOf}
+use Rattle.calls.specs.Causes.{Judged, Placed, ImageCause, ListCause, QueryCause}
+use Rattle.calls.specs.Causes as causes
 
--- ---- the number of a refusal
+-- ---- a verdict that is accepted, or refused by one of some causes
 
--- of an image: 1 to 14
-abbrev pub imageCause : ℕ → Bool
-imageCause n = leb 1 n && leb n 14
+data Given (Cause : ℕ → ℕ → Type 0) : Verdict → Type 0 where
+  accepted : Given Cause Accepted
+  refused : {n place : ℕ} → Cause n place → Given Cause (Refused n place)
 
--- "The list call can give 23 but not 20 to 22."
-abbrev pub listCause : ℕ → Bool
-listCause n = imageCause n || eqb n 23
-
--- all of document 01's table: 1 to 14, and 20 to 23
-abbrev pub isCause : ℕ → Bool
-isCause n = imageCause n || (leb 20 n && leb n 23)
-
--- the numbers of the table, and those that the list call can give, by evaluation
-pub causes-are : filter isCause (upto 0 100)
-    ≡ 1 ∷ 2 ∷ 3 ∷ 4 ∷ 5 ∷ 6 ∷ 7 ∷ 8 ∷ 9 ∷ 10 ∷ 11 ∷ 12 ∷ 13 ∷ 14 ∷ 20 ∷ 21 ∷ 22 ∷ 23 ∷ []
-causes-are = refl
-
-pub list-causes-are : filter listCause (upto 0 100)
-    ≡ 1 ∷ 2 ∷ 3 ∷ 4 ∷ 5 ∷ 6 ∷ 7 ∷ 8 ∷ 9 ∷ 10 ∷ 11 ∷ 12 ∷ 13 ∷ 14 ∷ 23 ∷ []
-list-causes-are = refl
-
-most-renders : (m n : ℕ) → Decides (leb m n) (m ≤ n)
-most-renders m n = record { says = leb→le m n; passes = le→leb m n }
-
-pub cause-cases : (n : ℕ) → T (isCause n) → ((1 ≤ n) × (n ≤ 14)) ⊎ ((20 ≤ n) × (n ≤ 23))
-cause-cases n = decides-or
-    (decides-and (most-renders 1 n) (most-renders n 14))
-    (decides-and (most-renders 20 n) (most-renders n 23)) .says
-
--- accepted, or refused by one of some causes
-pub data ByCause (causes : ℕ → Bool) : Verdict → Type 0 where
-  accepted : ByCause causes Accepted
-  refused : {n place : ℕ} → T (causes n) → ByCause causes (Refused n place)
-
-module _ {causes : ℕ → Bool} where
-  by-refuse : (b : Bool) (n place : ℕ) → T (causes n) → ByCause causes (refuse b n place)
-  by-refuse true n place c = refused c
+module _ {Cause : ℕ → ℕ → Type 0} where
+  by-refuse : (b : Bool) (n place : ℕ) → (T b → Cause n place) → Given Cause (refuse b n place)
+  by-refuse true n place c = refused (c tt)
   by-refuse false n place c = accepted
 
-  by-then : {a v : Verdict} → ByCause causes a → ByCause causes v → ByCause causes (andThen a v)
-  by-then accepted d = d
+  by-then : {a v : Verdict} → Given Cause a → (a ≡ Accepted → Given Cause v) → Given Cause (andThen a v)
+  by-then accepted d = d refl
   by-then (refused c) d = refused c
 
-  -- an image's causes are among those of the calls that ask more of it
-  by-more : (more : ℕ → Bool) {v : Verdict} → ByCause causes v → ByCause (λ n. causes n || more n) v
-  by-more more accepted = accepted
-  by-more more (refused {n} c) = refused (or-left (causes n) (more n) c)
+  by-more : {More : ℕ → ℕ → Type 0} {v : Verdict} → ((n place : ℕ) → Cause n place → More n place) → Given Cause v
+      → Given More v
+  by-more f accepted = accepted
+  by-more f (refused {n} {place} c) = refused (f n place c)
 
-module _ (s : List ℕ) where
-  part-cause : (part : List ℕ) (atoms before place : ℕ) → ByCause imageCause (partVerdict part atoms before place)
-  unfolding partVerdict
-  part-cause part atoms before place =
-      by-then (by-refuse (badSize part) 4 place tt)
-      (by-then (by-refuse (badKind part) 5 place tt)
-      (by-then (by-refuse (badLiteral atoms part) 6 place tt)
-      (by-then (by-refuse (badBody part) 7 place tt)
-      (by-then (by-refuse (badEmpty part) 8 place tt)
-      (by-refuse (badSeventeenth before part) 9 place tt)))))
+  -- the cause that a refusal names applies
+  named : {v : Verdict} → Judged Cause v → (n place : ℕ) → v ≡ Refused n place → Cause n place
+  named (causes.accepted f) n place e = absurd (let z : _≡_ {A = ℕ} 0 1 = cc in omega arith)
+  named (causes.refused {number = m} {place = at} c) n place e =
+      let p : m ≡ n = cc in
+      let q : at ≡ place = cc in
+      subst₂ Cause p q c
 
-  rule-cause : (before i : ℕ) → ByCause imageCause (ruleVerdict s before i)
-  unfolding ruleVerdict
-  rule-cause before i =
-      by-then (part-cause (partOf s i) (atomsOf s) before i)
-      (by-refuse (badRepeat s i) 10 i tt)
-
-  rules-cause : (before i n : ℕ) → ByCause imageCause (rulesVerdict s before i n)
-  unfolding rulesVerdict
-  rules-cause before i zero = accepted
-  rules-cause before i (suc n) =
-      by-then (rule-cause before i)
-      (rules-cause (countKind (kindByte (partOf s i)) before) (suc i) n)
-
-  pair-cause : (j : ℕ) → ByCause imageCause (pairVerdict s j)
-  unfolding pairVerdict
-  pair-cause j =
-      by-then (by-refuse (badPair s j) 12 j tt)
-      (by-refuse (badOrder s j) 13 j tt)
-
-  pairs-cause : (j n : ℕ) → ByCause imageCause (pairsVerdict s j n)
-  unfolding pairsVerdict
-  pairs-cause j zero = accepted
-  pairs-cause j (suc n) = by-then (pair-cause j) (pairs-cause (suc j) n)
-
-  verdict-cause : ByCause imageCause (verdict s)
-  unfolding verdict
-  verdict-cause =
-      by-then (by-refuse (badLength s) 1 0 tt)
-      (by-then (by-refuse (badCounts s) 2 0 tt)
-      (by-then (by-refuse (badDirectory s) 3 0 tt)
-      (by-then (rules-cause 0 0 (rulesOf s))
-      (by-then (by-refuse (badPairs s) 11 0 tt) (pairs-cause 0 (pairsOf s))))))
-
-  pub check-cause : ByCause imageCause (checkImage s)
-  unfolding checkImage
-  check-cause =
-      by-then verdict-cause
-      (by-refuse (contradictory (Π (programIn s .rules))) 14 0 tt)
-
-  pub list-cause : (room : ℕ) → ByCause listCause (listVerdict s room)
-  unfolding listVerdict
-  list-cause room =
-      by-then (by-more (λ n. eqb n 23) check-cause) (by-refuse (ltb room (length (listIn s))) 23 0 tt)
-
-  pub query-cause : (h b al nl : ℕ) → ByCause isCause (queryVerdict s h b al nl)
-  unfolding queryVerdict
-  query-cause h b al nl =
-      by-then (by-more (λ n. leb 20 n && leb n 23) check-cause)
-      (by-then (by-refuse (leb 128 h) 20 0 tt)
-      (by-then (by-refuse (ltb 4096 b) 21 0 tt)
-      (by-then (by-refuse (ltb nl b) 22 0 tt)
-      (by-refuse (ltb al (length (listIn s))) 23 0 tt))))
+  judged : {v : Verdict} → Given Cause v → (v ≡ Accepted → (n place : ℕ) → ¬ Cause n place) → Judged Cause v
+  judged accepted f = causes.accepted (f refl)
+  judged (refused c) f = causes.refused c
 
 -- ---- what is accepted
 
@@ -146,6 +71,9 @@ then-accepted (Refused n place) v e = absurd (let z : _≡_ {A = ℕ} 0 1 = cc i
 refuse-accepted : (b : Bool) (n place : ℕ) → refuse b n place ≡ Accepted → b ≡ false
 refuse-accepted true n place e = absurd (let z : _≡_ {A = ℕ} 0 1 = cc in omega arith)
 refuse-accepted false n place e = refl
+
+pub not-refused : {v : Verdict} {n place : ℕ} → v ≡ Accepted → v ≡ Refused n place → ⊥
+not-refused e f = let z : _≡_ {A = ℕ} 0 1 = cc in omega arith
 
 within-of : (m n : ℕ) → ltb m n ≡ false → n ≤ m
 within-of m n e = nltb→le m n (rw e tt)
@@ -190,3 +118,196 @@ query-accepted s h b al nl e =
       node-room = within-of nl b (refuse-accepted (ltb nl b) 22 0 (k22 .0));
       argument-room = within-of al (length (listIn s)) (refuse-accepted (ltb al (length (listIn s))) 23 0 (k22 .1));
     }
+
+-- a program within the limits has heads below 128
+pub limits-heads : {p : Program} → Limits p → HeadsBelow 128 (p .rules)
+limits-heads l r i = let k = l .heads-below r i in let n = l .atoms-limit in omega arith
+
+module _ (s : List ℕ) where
+  pub read-heads : verdict s ≡ Accepted → HeadsBelow 128 (programIn s .rules)
+  read-heads e = limits-heads (accepted-limits s e)
+
+  pub checked-heads : checkImage s ≡ Accepted → HeadsBelow 128 (programIn s .rules)
+  checked-heads e = read-heads (check-accepted s e .0)
+
+  -- 14: "Π contradictory", as published
+  pub check-coherent : (checkImage s ≡ Accepted) ↔ ((verdict s ≡ Accepted) × (¬ Contradictory (Π (programIn s .rules))))
+  check-coherent = (
+    λ e.
+        let k = check-accepted s e in
+        (k .0, λ c. false≢true (sym (k .1) ∙ contradictory-complete (Π (programIn s .rules)) (strict (k .0)) c)),
+    λ r.
+        check-passes s (r .0)
+        (not-true-false (contradictory (Π (programIn s .rules))) (λ e. r .1 (contradictory-sound (Π (programIn s .rules)) e))),
+  )
+    where
+      strict : verdict s ≡ Accepted → HeadsBelow 128 (Π (programIn s .rules))
+      strict e r i = read-heads e r (Π-with-rules (programIn s .rules) (λ _. false) r i)
+
+-- ---- the reading of an image: 1 to 13, each with its place
+
+module _ (s : List ℕ) (few : rulesOf s ≤ 96) where
+  by-rule : (b : Bool) (n i : ℕ) → T (leb 4 n && leb n 10) → i < rulesOf s → Given (Placed s) (refuse b n i)
+  by-rule b n i t h =
+      let k = and-both (leb 4 n) (leb n 10) t in
+      by-refuse b n i (λ _. causes.rule (leb→le 4 n (k .0)) (leb→le n 10 (k .1)) h few)
+
+  part-cause : (part : List ℕ) (atoms before i : ℕ) → i < rulesOf s → Given (Placed s) (partVerdict part atoms before i)
+  unfolding partVerdict
+  part-cause part atoms before i h =
+      by-then (by-rule (badSize part) 4 i tt h) (λ _.
+      by-then (by-rule (badKind part) 5 i tt h) (λ _.
+      by-then (by-rule (badLiteral atoms part) 6 i tt h) (λ _.
+      by-then (by-rule (badBody part) 7 i tt h) (λ _.
+      by-then (by-rule (badEmpty part) 8 i tt h) (λ _.
+      by-rule (badSeventeenth before part) 9 i tt h)))))
+
+  rule-cause : (before i : ℕ) → i < rulesOf s → Given (Placed s) (ruleVerdict s before i)
+  unfolding ruleVerdict
+  rule-cause before i h =
+      by-then (part-cause (partOf s i) (atomsOf s) before i h) (λ _.
+      by-rule (badRepeat s i) 10 i tt h)
+
+  rules-cause : (before i n : ℕ) → i + n ≤ rulesOf s → Given (Placed s) (rulesVerdict s before i n)
+  unfolding rulesVerdict
+  rules-cause before i zero h = accepted
+  rules-cause before i (suc n) h =
+      by-then (rule-cause before i (omega arith)) (λ _.
+      rules-cause (countKind (kindByte (partOf s i)) before) (suc i) n (omega arith))
+
+module _ (s : List ℕ) (few : pairsOf s ≤ 240) where
+  pair-cause : (j : ℕ) → j < pairsOf s → Given (Placed s) (pairVerdict s j)
+  unfolding pairVerdict
+  pair-cause j h =
+      by-then (by-refuse (badPair s j) 12 j (λ _. causes.pair (omega arith) (omega arith) h few)) (λ _.
+      by-refuse (badOrder s j) 13 j (λ _. causes.pair (omega arith) (omega arith) h few))
+
+  pairs-cause : (j n : ℕ) → j + n ≤ pairsOf s → Given (Placed s) (pairsVerdict s j n)
+  unfolding pairsVerdict
+  pairs-cause j zero h = accepted
+  pairs-cause j (suc n) h = by-then (pair-cause j (omega arith)) (λ _. pairs-cause (suc j) n (omega arith))
+
+module _ (s : List ℕ) where
+  by-whole : (b : Bool) (n : ℕ) → T (leb 1 n && leb n 3) → Given (Placed s) (refuse b n 0)
+  by-whole b n t =
+      let k = and-both (leb 1 n) (leb n 3) t in
+      by-refuse b n 0 (λ _. causes.whole (leb→le 1 n (k .0)) (leb→le n 3 (k .1)))
+
+  counts-few : badCounts s ≡ false → (rulesOf s ≤ 96) × (pairsOf s ≤ 240)
+  counts-few e =
+      let more = neither-right (ltb 64 (atomsOf s)) _ e in
+      let pairs = neither-left (ltb 240 (pairsOf s)) _ (neither-right (ltb 96 (rulesOf s)) _ more) in
+      (within-of 96 (rulesOf s) (neither-left (ltb 96 (rulesOf s)) _ more), within-of 240 (pairsOf s) pairs)
+
+  verdict-cause : Given (Placed s) (verdict s)
+  unfolding verdict
+  verdict-cause =
+      by-then (by-whole (badLength s) 1 tt) (λ _.
+      by-then (by-whole (badCounts s) 2 tt) (λ e.
+      let few = counts-few (refuse-accepted (badCounts s) 2 0 e) in
+      by-then (by-whole (badDirectory s) 3 tt) (λ _.
+      by-then (rules-cause s (few .0) 0 0 (rulesOf s) (omega arith)) (λ _.
+      by-then (by-refuse (badPairs s) 11 0 (λ _. causes.last-part)) (λ _.
+      pairs-cause s (few .1) 0 (pairsOf s) (omega arith))))))
+
+-- ---- each call
+
+module _ (s : List ℕ) where
+  by-verdict : {v : Verdict} → verdict s ≡ v → Given (Placed s) v → Given (ImageCause s) v
+  by-verdict e accepted = accepted
+  by-verdict e (refused r) = refused (causes.reading r e)
+
+  check-given : Given (ImageCause s) (checkImage s)
+  unfolding checkImage
+  check-given =
+      by-then (by-verdict refl (verdict-cause s)) (λ _.
+      by-refuse (contradictory (Π (programIn s .rules))) 14 0 (λ t.
+      causes.contradictory (contradictory-sound (Π (programIn s .rules)) (T-true (contradictory (Π (programIn s .rules))) t))))
+
+  check-none : checkImage s ≡ Accepted → {n place : ℕ} → ImageCause s n place → ⊥
+  check-none e (causes.reading r f) = not-refused (check-coherent s .0 e .0) f
+  check-none e (causes.contradictory c) = check-coherent s .0 e .1 c
+
+  pub check-judged : Judged (ImageCause s) (checkImage s)
+  check-judged = judged check-given (λ e n place. check-none e)
+
+  -- 23, where the image is accepted
+  by-room : checkImage s ≡ Accepted → (room : ℕ) → Given (ListCause s room) (refuse (ltb room (length (listIn s))) 23 0)
+  by-room e room =
+      by-refuse (ltb room (length (listIn s))) 23 0 (λ t.
+      causes.arguments (list-is (programIn s .rules) (checked-heads s e)) (ltb→lt room (length (listIn s)) t))
+
+  list-none : (room : ℕ) → checkImage s ≡ Accepted → length (listIn s) ≤ room → {n place : ℕ} → ListCause s room n place → ⊥
+  list-none room e h (causes.of-image c) = check-none e c
+  list-none room e h (causes.arguments {list} a more) =
+      let same = ap length (list-published (programIn s .rules) (checked-heads s e) list .0 a) in
+      omega arith
+
+  pub list-judged : (room : ℕ) → Judged (ListCause s room) (listVerdict s room)
+  unfolding listVerdict
+  list-judged room =
+      judged (by-then (by-more (λ n place. causes.of-image) check-given) (λ e. by-room e room)) (λ e n place.
+      let k = list-accepted s room e in list-none room (k .0) (k .1))
+
+  module _ (a : Asked) where
+    abbrev the-verdict : Verdict
+    the-verdict = queryVerdict s (a .literal) (a .budget) (a .argumentRoom) (a .nodeRoom)
+
+    query-given : Given (QueryCause s a) the-verdict
+    unfolding queryVerdict
+    query-given =
+        by-then (by-more (λ n place c. causes.of-list (causes.of-image c)) check-given) (λ e.
+        by-then (by-refuse (leb 128 (a .literal)) 20 0 (λ t. causes.literal (leb→le 128 (a .literal) t))) (λ _.
+        by-then (by-refuse (ltb 4096 (a .budget)) 21 0 (λ t. causes.budget (ltb→lt 4096 (a .budget) t))) (λ _.
+        by-then (by-refuse (ltb (a .nodeRoom) (a .budget)) 22 0 (λ t. causes.nodes (ltb→lt (a .nodeRoom) (a .budget) t))) (λ _.
+        by-more (λ n place. causes.of-list) (by-room e (a .argumentRoom))))))
+
+    query-none : Fits s (a .literal) (a .budget) (a .argumentRoom) (a .nodeRoom) → {n place : ℕ} → QueryCause s a n place → ⊥
+    query-none f (causes.of-list c) = list-none (a .argumentRoom) (f .checked) (f .argument-room) c
+    query-none f (causes.literal h) = omega arith
+    query-none f (causes.budget h) = omega arith
+    query-none f (causes.nodes h) = omega arith
+
+    query-judged : Judged (QueryCause s a) the-verdict
+    query-judged = judged query-given (λ e n place.
+        query-none (query-accepted s (a .literal) (a .budget) (a .argumentRoom) (a .nodeRoom) e))
+
+  pub call-judged : (c : Call) → Judged (QueryCause s (asked c)) (verdictOf s c)
+  call-judged c = query-judged (asked c)
+
+-- ---- the number and the place of a refusal are small
+
+abbrev pub Bounded : ℕ → ℕ → Type 0
+Bounded n place = (1 ≤ n) × (n ≤ 23) × (place < 240)
+
+module _ (s : List ℕ) where
+  placed-small : {n place : ℕ} → Placed s n place → Bounded n place
+  placed-small (causes.whole a b) = (omega arith, omega arith, omega arith)
+  placed-small (causes.rule a b c d) = (omega arith, omega arith, omega arith)
+  placed-small causes.last-part = (omega arith, omega arith, omega arith)
+  placed-small (causes.pair a b c d) = (omega arith, omega arith, omega arith)
+
+  image-small : {n place : ℕ} → ImageCause s n place → Bounded n place
+  image-small (causes.reading r e) = placed-small r
+  image-small (causes.contradictory c) = (omega arith, omega arith, omega arith)
+
+  list-small : {room n place : ℕ} → ListCause s room n place → Bounded n place
+  list-small (causes.of-image c) = image-small c
+  list-small (causes.arguments a h) = (omega arith, omega arith, omega arith)
+
+  query-small : {a : Asked} {n place : ℕ} → QueryCause s a n place → Bounded n place
+  query-small (causes.of-list c) = list-small c
+  query-small (causes.literal h) = (omega arith, omega arith, omega arith)
+  query-small (causes.budget h) = (omega arith, omega arith, omega arith)
+  query-small (causes.nodes h) = (omega arith, omega arith, omega arith)
+
+  pub check-refused : (n place : ℕ) → checkImage s ≡ Refused n place → Bounded n place
+  check-refused n place e = image-small (named (check-judged s) n place e)
+
+  pub list-refused : (room n place : ℕ) → listVerdict s room ≡ Refused n place → Bounded n place
+  list-refused room n place e = list-small (named (list-judged s room) n place e)
+
+  pub query-refused : (h b al nl n place : ℕ) → queryVerdict s h b al nl ≡ Refused n place → Bounded n place
+  query-refused h b al nl n place e =
+      let a : Asked = record { literal = h; budget = b; argumentRoom = al; nodeRoom = nl } in
+      query-small (named (query-judged s a) n place e)

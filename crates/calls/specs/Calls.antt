@@ -1,9 +1,9 @@
 -- What each public call returns and what it leaves in each lent table, from the image's bytes (document 01, "Answers" and
 -- "Causes for turning an order away").
 use mathlib.Core.Path.{_≡_}
-use mathlib.Core.List.{List, [], _++_, map}
-use Prim.Native.Nat.{ℕ, _+_, _*_, _/_}
-use lib.ListN.{length, drop, replicate}
+use mathlib.Core.List.{List}
+use Prim.Native.Nat.{ℕ, _+_, _*_, _/_, _%_}
+use lib.ListN.{length}
 use lib.Dec.{ltb, leb}
 use Rattle.program.specs.Program.{Π}
 use Rattle.layout.specs.declared.Verdict.{Verdict}
@@ -148,6 +148,10 @@ answeredNumber (Refused number place) = refusalNumber number place
 abbrev pub treesCall : List ℕ → (literal budget argumentRoom nodeRoom : ℕ) → ℕ
 treesCall s h budget argumentRoom nodeRoom = answeredNumber (queried s h budget argumentRoom nodeRoom)
 
+-- a result that carries a cause with its place
+abbrev pub Carries : ℕ → (number place : ℕ) → Type 0
+Carries result number place = (result / 0x1_0000_0000 ≡ number) × (result % 0x1_0000_0000 ≡ place)
+
 -- ---- the calls that give a literal's answer
 
 -- "each may be any call that gives a literal's answer, as these two do, with any budget and, where tables are lent, tables
@@ -157,13 +161,46 @@ pub data Call : Type 0 where
   host : (literal budget : ℕ) → Call
   trees : (literal budget argumentRoom nodeRoom : ℕ) → Call
 
+-- what a call asks for, with its budget and the number of entries of its two tables
+pub record Asked : Type 0 where
+  pub literal : ℕ
+  pub budget : ℕ
+  pub argumentRoom : ℕ
+  pub nodeRoom : ℕ
+
+abbrev pub asked : Call → Asked
+asked (query h budget argumentRoom nodeRoom) =
+    record { literal = h; budget = budget; argumentRoom = argumentRoom; nodeRoom = nodeRoom }
+asked (host h budget) = record { literal = h; budget = budget; argumentRoom = 4096; nodeRoom = 4096 }
+asked (trees h budget argumentRoom nodeRoom) =
+    record { literal = h; budget = budget; argumentRoom = argumentRoom; nodeRoom = nodeRoom }
+
 abbrev pub literalAsked : Call → ℕ
-literalAsked (query h budget argumentRoom nodeRoom) = h
-literalAsked (host h budget) = h
-literalAsked (trees h budget argumentRoom nodeRoom) = h
+literalAsked c = asked c .literal
+
+-- accepted, or the first cause that turns the call away
+abbrev pub verdictOf : List ℕ → Call → Verdict
+verdictOf s c = queryVerdict s (asked c .literal) (asked c .budget) (asked c .argumentRoom) (asked c .nodeRoom)
+
+-- the answer's code and its nodes, as the caller reads them from the result
+abbrev pub codeFrom : List ℕ → Call → ℕ
+codeFrom s (query h budget argumentRoom nodeRoom) = codeOf (queried s h budget argumentRoom nodeRoom)
+codeFrom s (host h budget) = hostCall s h budget / 65536
+codeFrom s (trees h budget argumentRoom nodeRoom) = treesCall s h budget argumentRoom nodeRoom / 65536
+
+abbrev pub nodesFrom : List ℕ → Call → ℕ
+nodesFrom s (query h budget argumentRoom nodeRoom) = nodesOf (queried s h budget argumentRoom nodeRoom)
+nodesFrom s (host h budget) = hostCall s h budget % 65536
+nodesFrom s (trees h budget argumentRoom nodeRoom) = treesCall s h budget argumentRoom nodeRoom % 65536
+
+-- the result is a refusal by this cause; the host call's has no place
+abbrev pub HandsBack : List ℕ → Call → (number place : ℕ) → Type 0
+HandsBack s (query h budget argumentRoom nodeRoom) number place =
+    queried s h budget argumentRoom nodeRoom ≡ Refused number place
+HandsBack s (host h budget) number place = hostCall s h budget ≡ number
+HandsBack s (trees h budget argumentRoom nodeRoom) number place =
+    Carries (treesCall s h budget argumentRoom nodeRoom) number place
 
 -- the call says YES to its literal
 abbrev pub SaysYes : List ℕ → Call → Type 0
-SaysYes s (query h budget argumentRoom nodeRoom) = codeOf (queried s h budget argumentRoom nodeRoom) ≡ 1
-SaysYes s (host h budget) = hostCall s h budget / 65536 ≡ 1
-SaysYes s (trees h budget argumentRoom nodeRoom) = treesCall s h budget argumentRoom nodeRoom / 65536 ≡ 1
+SaysYes s c = codeFrom s c ≡ 1

@@ -1,5 +1,5 @@
 -- Which sub-arguments a listed argument attacks, as the closure table and the exclusion table tell it, and the kind that
--- follows. Assumes nothing.
+-- follows.
 use mathlib.Core.Path.{_≡_, refl, sym, ap, ap₂, _∙_, subst}
 use mathlib.Core.Bool.{Bool, true, false, _&&_, false≢true}
 use mathlib.Core.List.{List, [], _∷_, List·Memᴰ, List·Memᴰ·head, List·Memᴰ·tail, List·Memᴰ·cases-cons}
@@ -13,6 +13,7 @@ use lib.ListN.{length, getD, take, drop}
 use lib.Seq.{drop-cons, length-take-le, getD-take}
 use Rattle.lists.specs.Lists.{any}
 use Rattle.lists.proofs.Lists.{T-true, any-intro, any-found}
+use Rattle.lists.proofs.Orders.{member-at, ascending-rest}
 use Rattle.literals.specs.Sets.{has, within, meets}
 use Rattle.literals.proofs.Tests.{true-T, same-test, not-true-false, and-intro, and-left, and-right}
 use Rattle.literals.proofs.Members.{has-cases, has-empty}
@@ -24,12 +25,12 @@ use Rattle.derivation.specs.Closure.{contradictory, excludes}
 use Rattle.derivation.proofs.Contradictions.{excludes-sym, excludes-derived}
 use Rattle.derivation.proofs.Choices.{Π-with-mono}
 use Rattle.argument.specs.Argument.{Subset, Argument, SubArgument, maskOf, literalOf}
-use Rattle.argument.specs.List.{argumentList, Ascends}
+use Rattle.argument.specs.List.{argumentList}
 use Rattle.argument.specs.Fresh.{maskClosure}
 use Rattle.argument.specs.Closures.{closureAt}
 use Rattle.argument.proofs.Minimal.{argument-derives, argument-coherent, argument-mask-below}
 use Rattle.argument.proofs.SubArguments.{argument-derived, sub-argument-literal, literal-sub-argument}
-use Rattle.argument.proofs.Lists.{list-sound, list-complete, ascends-low, list-ascends}
+use Rattle.argument.proofs.Lists.{list-sound, list-complete, list-ascending}
 use Rattle.defeat.specs.Tests.{kind}
 use Rattle.defeat.specs.OfProgram.{testsOf}
 use Rattle.defeat.specs.Exclusions.{excludedBy, Ready}
@@ -199,18 +200,6 @@ module _ {p : Program} {u : ℕ} {table closures exclusions arguments : List ℕ
 
 -- ---- the list from an index on
 
--- one of a list that ascends is below those that follow
-ascends-rest : (l : List ℕ) (low high i z : ℕ) → Ascends low high l → i < length l → List·Memᴰ z (drop i l) → getD l i 0 ≤ z
-ascends-rest [] low high i z a h j = absurd (omega arith)
-ascends-rest (x ∷ l) low high zero z a h j =
-    ⊎-elim (λ e. omega arith) (λ k. omega (arith, ascends-low l (suc x) high z (a .2) k)) (List·Memᴰ·cases-cons j)
-ascends-rest (x ∷ l) low high (suc i) z a h j = ascends-rest l (suc x) high i z (a .2) (omega arith) j
-
-listed-at : (l : List ℕ) (i : ℕ) → i < length l → List·Memᴰ (getD l i 0) l
-listed-at [] i h = absurd (omega arith)
-listed-at (x ∷ l) zero h = List·Memᴰ·head refl
-listed-at (x ∷ l) (suc i) h = List·Memᴰ·tail (listed-at l i (omega arith))
-
 -- the entry at i of a table that begins with the list
 module _ (rules : List Rule) (arguments : List ℕ) (count i : ℕ) (listed : take count arguments ≡ argumentList rules)
     (enough : count ≤ length arguments) (inside : i < count) where
@@ -223,7 +212,7 @@ module _ (rules : List Rule) (arguments : List ℕ) (count i : ℕ) (listed : ta
   pub entry-listed : List·Memᴰ (getD arguments i 0) (argumentList rules)
   entry-listed =
       subst (λ (z : ℕ). List·Memᴰ z (argumentList rules)) entry-is
-      (listed-at (argumentList rules) i (omega (arith, as-long)))
+      (member-at (argumentList rules) i (omega (arith, as-long)))
 
   pub entry-first : drop i (argumentList rules) ≡ getD arguments i 0 ∷ drop (i + 1) (argumentList rules)
   entry-first =
@@ -235,7 +224,7 @@ module _ (rules : List Rule) (arguments : List ℕ) (count i : ℕ) (listed : ta
       → attackedBy s m z ≡ false
   entry-past s m h z j = not-true-false (attackedBy s m z) (λ q.
       let there : i < length (argumentList rules) = omega (arith, as-long) in
-      let low = ascends-rest (argumentList rules) 0 (2 ^ defeasibles rules * 128) i z (list-ascends rules) there j in
+      let low = ascending-rest (argumentList rules) i z (list-ascending rules) there j in
       let part = within-le (maskOf z) m (and-left (within (maskOf z) m) (has s (literalOf z)) q) in
       let e = entry-is in
       omega arith)

@@ -20,7 +20,7 @@ use Rattle.derivation.proofs.Chains.{derives-ind, derives-rule, derives-mono}
 use Rattle.derivation.proofs.Contradictions.{contradictory-sound, contradictory-complete, excludes-sound}
 use Rattle.derivation.proofs.Contradictions.{excludes-complete}
 use Rattle.derivation.proofs.Choices.{Π-with-mono, Π-with-rules}
-use Rattle.argument.specs.Argument.{Subset, Argument, maskOf, literalOf}
+use Rattle.argument.specs.Argument.{Subset, maskOf, literalOf}
 use Rattle.argument.proofs.Lists.{list-sound, list-complete}
 use Rattle.defeat.specs.Frame.{Frame}
 use Rattle.defeat.specs.OfProgram.{inSome, Π-all, frameOf, testsOf}

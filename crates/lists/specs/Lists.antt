@@ -2,7 +2,7 @@
 -- waits: the first element that decides ends the test.
 use mathlib.Core.Bool.{Bool, true, false, _&&_, _||_}
 use mathlib.Core.List.{List, [], _∷_, List·Memᴰ}
-use Prim.Native.Nat.{ℕ, zero, suc, _<_}
+use Prim.Native.Nat.{ℕ, zero, suc, _≤_, _<_}
 use lib.Dec.{eqb}
 
 module _ {A : Type 0} where
@@ -44,3 +44,8 @@ upto first (suc count) = first ∷ upto (suc first) count
 abbrev pub Ascending : List ℕ → Type 0
 Ascending [] = Unit {0}
 Ascending (x ∷ l) = ((y : ℕ) → List·Memᴰ y l → x < y) × Ascending l
+
+-- the same, from low on and below high
+abbrev pub Ascends : ℕ → ℕ → List ℕ → Type 0
+Ascends low high [] = low ≤ high
+Ascends low high (x ∷ l) = (low ≤ x) × (x < high) × Ascends (suc x) high l

@@ -1,4 +1,4 @@
--- What the tables that a call lends down say of the argument list: each argument once, at its index. Assumes nothing.
+-- What the tables that a call lends down say of the argument list: each argument once, at its index.
 use mathlib.Core.Path.{_≡_, refl, sym, ap, _∙_, subst}
 use mathlib.Core.List.{List, [], _∷_, List·Memᴰ, List·Memᴰ·head, List·Memᴰ·tail}
 use Prim.Native.Nat.{ℕ, zero, suc, _+_, _*_, _^_, _≤_, _<_}
@@ -7,13 +7,15 @@ use native.Mathlib.Nat.{pow-le-pow-right}
 use lib.ListN.{length, getD, take}
 use lib.Seq.{getD-take, length-take-le}
 use borrow.Author.Tests.{eq-eqb, ne-eqb}
+use Rattle.lists.specs.Lists.{Ascending}
+use Rattle.lists.proofs.Orders.{member-at, ascends-high}
 use Rattle.literals.specs.Sets.{within}
 use Rattle.literals.proofs.Tests.{true-T}
 use Rattle.literals.proofs.Within.{within-refl}
 use Rattle.program.specs.Program.{defeasibles}
 use Rattle.argument.specs.Argument.{maskOf}
-use Rattle.argument.specs.List.{argumentList, Ascends}
-use Rattle.argument.proofs.Lists.{list-ascends}
+use Rattle.argument.specs.List.{argumentList}
+use Rattle.argument.proofs.Lists.{list-ascends, list-ascending, list-length}
 use Rattle.defeat.specs.OfProgram.{testsOf}
 use Rattle.tree.specs.OfLiteral.{indexIn}
 use Rattle.tree.specs.Steps.{Prepared, testsIn}
@@ -21,29 +23,13 @@ use Rattle.tree.proofs.Growing.{Listing}
 
 -- ---- a list that ascends
 
-ascends-length : (l : List ℕ) (low high : ℕ) → Ascends low high l → low + length l ≤ high
-ascends-length [] low high a = omega arith
-ascends-length (x ∷ l) low high a = let r = ascends-length l (suc x) high (a .2) in let h = a .0 in omega arith
-
-ascends-low : (l : List ℕ) (low high j : ℕ) → Ascends low high l → j < length l → low ≤ getD l j 0
-ascends-low [] low high j a h = absurd (omega arith)
-ascends-low (x ∷ l) low high zero a h = a .0
-ascends-low (x ∷ l) low high (suc j) a h =
-    let r = ascends-low l (suc x) high j (a .2) (omega arith) in
-    let b = a .0 in
-    omega arith
-
-pub ascends-high : (l : List ℕ) (low high x : ℕ) → Ascends low high l → List·Memᴰ x l → x < high
-ascends-high (y ∷ l) low high x a (List·Memᴰ·head e) = let b = a .1 in omega arith
-ascends-high (y ∷ l) low high x a (List·Memᴰ·tail i) = ascends-high l (suc y) high x (a .2) i
-
 -- each number's first place is the only one
-pub index-at : (l : List ℕ) (low high j : ℕ) → Ascends low high l → j < length l → indexIn l (getD l j 0) ≡ j
-index-at [] low high j a h = absurd (omega arith)
-index-at (x ∷ l) low high zero a h = rw (eq-eqb x x refl)
-index-at (x ∷ l) low high (suc j) a h =
-    let b = ascends-low l (suc x) high j (a .2) (omega arith) in
-    rw (ne-eqb x (getD l j 0) (λ e. omega arith), index-at l (suc x) high j (a .2) (omega arith))
+pub index-at : (l : List ℕ) (j : ℕ) → Ascending l → j < length l → indexIn l (getD l j 0) ≡ j
+index-at [] j a h = absurd (omega arith)
+index-at (x ∷ l) zero a h = rw (eq-eqb x x refl)
+index-at (x ∷ l) (suc j) a h =
+    let b = a .0 (getD l j 0) (member-at l j (omega arith)) in
+    rw (ne-eqb x (getD l j 0) (λ e. omega arith), index-at l j (a .1) (omega arith))
 
 -- ---- the tables
 
@@ -75,8 +61,7 @@ module _ {table closures exclusions arguments : List ℕ} {count : ℕ} (w : Pre
   -- an index fits
   pub prepared-count : count ≤ 8388608
   prepared-count =
-      let a = ascends-length l 0 (2 ^ defeasibles (w .program .rules) * 128) (list-ascends (w .program .rules)) in
-      omega (arith, listed-length, few)
+      omega (arith, list-length (w .program .rules), listed-length, few)
 
   pub prepared-listing : Listing (testsIn w) arguments count
   unfolding testsOf
@@ -86,5 +71,5 @@ module _ {table closures exclusions arguments : List ℕ} {count : ℕ} (w : Pre
     listed = w .made .listed;
     placed = λ j h.
         subst (λ (x : ℕ). indexIn l x ≡ j) (ap (λ (m : List ℕ). getD m j 0) (sym (w .made .listed)) ∙ getD-take count arguments j 0 h)
-        (index-at l 0 (2 ^ defeasibles (w .program .rules) * 128) j (list-ascends (w .program .rules)) (omega (arith, listed-length)));
+        (index-at l j (list-ascending (w .program .rules)) (omega (arith, listed-length)));
   }

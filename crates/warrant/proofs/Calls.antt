@@ -1,9 +1,7 @@
--- The calls: when they say YES, what the host call's number says, and that every lent table keeps its length. Assumes
--- nothing.
+-- The calls: what their numbers say, and that every lent table keeps its length.
 use mathlib.Core.Path.{_≡_, refl, sym, ap, _∙_}
 use mathlib.Core.Bool.{Bool, true, false, not}
 use mathlib.Core.List.{List, [], _∷_, _++_, map, map-append, map-map}
-use mathlib.Core.Logic.{_⊎_, inl, inr, _↔_}
 use Prim.Native.Nat.{ℕ, zero, suc, _/_, _%_, _≤_, _<_}
 use native.Mathlib.Nat.{le-trans}
 use native.Mathlib.Omega.{arith}
@@ -24,20 +22,10 @@ use Rattle.answer.specs.Answer.{codeOf, nodesOf}
 use Rattle.calls.specs.Calls.{listIn, listVerdict, front, unlessRefused, listTable, queryVerdict, answeredBy}
 use Rattle.calls.specs.Calls.{queried, queryArguments}
 use Rattle.calls.specs.Calls.{nodesAfter, zeroed, queryColumn, queryTable, packed, hostCall, answeredNumber}
+use Rattle.calls.specs.Calls.{Call, query, host, trees, asked, literalAsked, verdictOf, codeFrom, nodesFrom}
 use Rattle.nodes.proofs.Rows.{front-length}
 use Rattle.answer.proofs.Answers.{entries-count, answer-not-refused, answer-nodes-within}
-use Rattle.calls.proofs.Refusals.{isCause, ByCause, accepted, refused, cause-cases, query-cause, list-accepted}
-use Rattle.calls.proofs.Refusals.{query-accepted}
-
--- ---- a code of an answer is the answer's, and nothing refused it
-
-pub answered-code : (v : Verdict) (a : Answer) (c : ℕ)
-    → (codeOf (answeredBy v a) ≡ suc c) ↔ ((v ≡ verdicts.Accepted) × (codeOf a ≡ suc c))
-answered-code verdicts.Accepted a c = (λ e. (refl, e), λ r. r .1)
-answered-code (verdicts.Refused n place) a c = (
-  λ e. absurd (let z : 0 ≡ suc c = e in omega arith),
-  λ r. absurd (let k = r .0 in let z : _≡_ {A = ℕ} 0 1 = cc in omega arith),
-)
+use Rattle.calls.proofs.Refusals.{Bounded, query-refused, list-accepted, query-accepted}
 
 -- ---- the host call's number
 
@@ -82,27 +70,24 @@ packed-below Unknown h = omega arith
 packed-below (Unfinished n) h = omega arith
 packed-below (Refused n place) h = let k = h .1 in omega arith
 
--- the 64-bit number's upper part is 1 exactly where the answer is YES
-answered-yes : (a : Answer) → Small a → (answeredNumber a / 65536 ≡ 1) ↔ (codeOf a ≡ 1)
-answered-yes (Yes n) h = let q = packed-code (Yes n) h in (λ e. refl, λ e. q)
-answered-yes (No n) h = let q = packed-code (No n) h in (λ e. sym q ∙ e, λ e. q ∙ e)
-answered-yes (Undecided n) h = let q = packed-code (Undecided n) h in (λ e. sym q ∙ e, λ e. q ∙ e)
-answered-yes Unknown h = let q = packed-code Unknown h in (λ e. sym q ∙ e, λ e. q ∙ e)
-answered-yes (Unfinished n) h = let q = packed-code (Unfinished n) h in (λ e. sym q ∙ e, λ e. q ∙ e)
-answered-yes (Refused n place) h = let l = h .0 in (λ e. absurd (omega arith), λ e. absurd (omega (arith, e)))
+-- beside a refusal the two numbers of an answer are one
+number-packed : (a : Answer) → (codeOf a ≡ 0 → ⊥) → answeredNumber a ≡ packed a
+number-packed (Yes n) f = refl
+number-packed (No n) f = refl
+number-packed (Undecided n) f = refl
+number-packed Unknown f = refl
+number-packed (Unfinished n) f = refl
+number-packed (Refused n place) f = absurd (f refl)
 
-answered-small : {v : Verdict} (a : Answer) → ByCause isCause v → (v ≡ verdicts.Accepted → Small a) → Small (answeredBy v a)
-answered-small a accepted f = f refl
-answered-small a (refused {n} c) f = go (cause-cases n c)
-  where
-    go : ((1 ≤ n) × (n ≤ 14)) ⊎ ((20 ≤ n) × (n ≤ 23)) → (1 ≤ n) × (n < 65536)
-    go (inl r) = let u = r .1 in (r .0, omega arith)
-    go (inr r) = let u = r .1 in let l = r .0 in (omega arith, omega arith)
+answered-small : (v : Verdict) (a : Answer) → ((n place : ℕ) → v ≡ verdicts.Refused n place → Bounded n place)
+    → (v ≡ verdicts.Accepted → Small a) → Small (answeredBy v a)
+answered-small verdicts.Accepted a f g = g refl
+answered-small (verdicts.Refused n place) a f g = let k = f n place refl in (k .0, omega arith)
 
 module _ (s : List ℕ) (h b : ℕ) where
   query-small : (al nl : ℕ) → Small (queried s h b al nl)
   unfolding queried
-  query-small al nl = answered-small (answer (programIn s) h b) (query-cause s h b al nl) (λ e.
+  query-small al nl = answered-small (queryVerdict s h b al nl) (answer (programIn s) h b) (query-refused s h b al nl) (λ e.
       let k = query-accepted s h b al nl e .budget-limit in
       let n = answer-nodes-within (programIn s) (preferredTest (programIn s)) h b in
       small-nodes (answer (programIn s) h b) (answer-not-refused (programIn s) (preferredTest (programIn s)) h b) (omega arith))
@@ -110,10 +95,6 @@ module _ (s : List ℕ) (h b : ℕ) where
   -- an answer of the query call packs into 32 bits
   pub query-packs : (al nl : ℕ) → packed (queried s h b al nl) < 0x1_0000_0000
   query-packs al nl = packed-below (queried s h b al nl) (query-small al nl)
-
-  pub trees-yes : (al nl : ℕ)
-      → (answeredNumber (queried s h b al nl) / 65536 ≡ 1) ↔ (codeOf (queried s h b al nl) ≡ 1)
-  trees-yes al nl = answered-yes (queried s h b al nl) (query-small al nl)
 
   -- the upper half is the answer's code, and 0 where a cause applies; the lower half is then its number of nodes
   pub host-code : hostCall s h b / 65536 ≡ codeOf (queried s h b 4096 4096)
@@ -127,6 +108,41 @@ module _ (s : List ℕ) (h b : ℕ) where
   pub host-refused : (n place : ℕ) → queried s h b 4096 4096 ≡ Refused n place → hostCall s h b ≡ n
   unfolding hostCall
   host-refused n place e = ap packed e
+
+-- ---- the result of a call, by its verdict
+
+module _ (s : List ℕ) where
+  pub queried-accepted : (h b al nl : ℕ) → queryVerdict s h b al nl ≡ verdicts.Accepted
+      → queried s h b al nl ≡ answer (programIn s) h b
+  unfolding queried
+  queried-accepted h b al nl e = ap (λ v. answeredBy v (answer (programIn s) h b)) e
+
+  pub queried-refused : (h b al nl n place : ℕ) → queryVerdict s h b al nl ≡ verdicts.Refused n place
+      → queried s h b al nl ≡ Refused n place
+  unfolding queried
+  queried-refused h b al nl n place e = ap (λ v. answeredBy v (answer (programIn s) h b)) e
+
+  -- an accepted query has a code
+  queried-code : (h b al nl : ℕ) → queryVerdict s h b al nl ≡ verdicts.Accepted → codeOf (queried s h b al nl) ≡ 0 → ⊥
+  queried-code h b al nl e z =
+      answer-not-refused (programIn s) (preferredTest (programIn s)) h b (sym (ap codeOf (queried-accepted h b al nl e)) ∙ z)
+
+  -- the code and the nodes of an accepted call are the answer's
+  pub call-answered : (c : Call) → verdictOf s c ≡ verdicts.Accepted
+      → (codeFrom s c ≡ codeOf (answer (programIn s) (literalAsked c) (asked c .budget)))
+      × (nodesFrom s c ≡ nodesOf (answer (programIn s) (literalAsked c) (asked c .budget)))
+  call-answered (query h b al nl) e = let q = queried-accepted h b al nl e in (ap codeOf q, ap nodesOf q)
+  call-answered (host h b) e =
+      let q = queried-accepted h b 4096 4096 e in
+      (host-code s h b ∙ ap codeOf q, host-nodes s h b (queried-code h b 4096 4096 e) ∙ ap nodesOf q)
+  call-answered (trees h b al nl) e =
+      let q = queried-accepted h b al nl e in
+      let code = queried-code h b al nl e in
+      let small = query-small s h b al nl in
+      let same = number-packed (queried s h b al nl) code in (
+        ap (λ r. r / 65536) same ∙ packed-code (queried s h b al nl) small ∙ ap codeOf q,
+        ap (λ r. r % 65536) same ∙ packed-nodes (queried s h b al nl) small code ∙ ap nodesOf q,
+      )
 
 -- ---- lent tables keep their length
 

@@ -1,3 +1,4 @@
--- What is claimed of the calls, and the query over tables of numbers.
+-- The three demands, what an answer has to be, and the query over tables of numbers.
 pub mod Claims
+pub mod Answers
 pub mod Columns
