@@ -7,6 +7,4 @@ pub mod Forest
 pub mod Entries
 pub mod OfLiteral
 pub mod Published
-pub mod Tables
-pub mod Steps
-pub mod Roots
+pub mod inside

@@ -1,4 +1,4 @@
--- What a store leaves in the rule table. Assumes nothing.
+-- What a store leaves in the rule table.
 use mathlib.Core.List.{List}
 use Prim.Native.Nat.{ℕ, _+_, _*_}
 use lib.ListN.{set}

@@ -1,4 +1,4 @@
--- What the private steps of the code compute. Assumes nothing.
+-- What the private steps of the code compute.
 use mathlib.Core.Bool.{Bool, not, _&&_, _||_}
 use mathlib.Core.List.{List}
 use Prim.Native.Nat.{ℕ}
@@ -6,7 +6,7 @@ use lib.Count.{ones}
 use lib.Dec.{eqb, ltb}
 use Rattle.literals.specs.Sets.{has, choose, within}
 use Rattle.program.specs.Program.{Rule, isDefeasible}
-use Rattle.program.specs.Table.{headAt, bodyAt, needAt}
+use Rattle.program.specs.inside.Table.{headAt, bodyAt, needAt}
 use Rattle.derivation.specs.Closure.{fire}
 
 -- a rule whose bit, if it is defeasible, is b: passed over if the mask does not have that bit

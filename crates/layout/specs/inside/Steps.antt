@@ -1,4 +1,4 @@
--- What each step of the reader hands back: what it read with the next cursor, or that it cannot. Assumes nothing.
+-- What each step of the reader hands back: what it read with the next cursor, or that it cannot.
 use mathlib.Core.Bool.{Bool, true, false, not, _||_}
 use mathlib.Core.List.{List}
 use mathlib.Core.Path.{_≡_}
@@ -7,7 +7,7 @@ use lib.ListN.{length}
 use lib.Dec.{leb, ltb, eqb}
 use Rattle.literals.specs.Sets.{choose}
 use Rattle.program.specs.Program.{Rule, Program, bitOf}
-use Rattle.program.specs.Table.{needAt, Holds}
+use Rattle.program.specs.inside.Table.{needAt, Holds}
 use Rattle.layout.specs.declared.Verdict.{Verdict}
 use Rattle.layout.specs.declared.Verdict.the-variants.{Accepted, Refused}
 use Rattle.layout.specs.declared.cursor.Cursor.{Cursor}

@@ -1,4 +1,4 @@
--- What the builder of a literal's forest is asked, and what it leaves. Assumes nothing.
+-- What the builder of a literal's forest is asked, and what it leaves.
 use mathlib.Core.Path.{_≡_}
 use mathlib.Core.Bool.{Bool}
 use mathlib.Core.List.{List}
@@ -11,8 +11,8 @@ use Rattle.defeat.specs.Tests.{Tests}
 use Rattle.tree.specs.Forest.{forestOf}
 use Rattle.tree.specs.Entries.{entries}
 use Rattle.tree.specs.OfLiteral.{indexIn, argumentsFor, forestEntries, warranted}
-use Rattle.tree.specs.Tables.{Columns, Hold, Built}
-use Rattle.tree.specs.Steps.{Prepared}
+use Rattle.tree.specs.inside.Tables.{Columns, Hold, Built}
+use Rattle.tree.specs.inside.Steps.{Prepared}
 
 -- what is asked before trees are written from number `at` on: "a budget of 0 to 4,096 nodes", and room for as many
 pub record RootsReady (table closures exclusions arguments : List ℕ) (count : ℕ) (line : List ℕ) (at limit : ℕ) (t : Columns)

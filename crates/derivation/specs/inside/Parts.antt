@@ -1,5 +1,5 @@
 -- Unions of sets that are closed under Π: which strict rules may add to them. A rule with one body literal, or none, has its
--- body in one of the sets, which has its head then. Assumes nothing.
+-- body in one of the sets, which has its head then.
 use mathlib.Core.Path.{_≡_}
 use mathlib.Core.Bool.{true, false}
 use mathlib.Core.List.{List}
@@ -8,7 +8,7 @@ use Prim.Native.Nat.{ℕ, _<_}
 use lib.ListN.{length}
 use Rattle.literals.specs.Sets.{has, insertAll, hasAll, union, within}
 use Rattle.program.specs.Program.{Rule, isDefeasible, ruleAt, Π}
-use Rattle.program.specs.Table.{ruleCount}
+use Rattle.program.specs.inside.Table.{ruleCount}
 use Rattle.derivation.specs.Closure.{closure}
 
 -- j has numbers of rules only

@@ -1,19 +1,19 @@
 -- The exclusion table: two words for each of the 128 literals, and what they say. Made once in a call, for those literals
--- that have an argument with a rule in its mask: no other argument attacks or is attacked. Assumes nothing.
+-- that have an argument with a rule in its mask: no other argument attacks or is attacked.
 use mathlib.Core.Path.{_≡_}
 use mathlib.Core.Bool.{true}
 use mathlib.Core.List.{List, List·Memᴰ}
 use Prim.Native.Nat.{ℕ, _+_, _*_, _^_, _<_, _≤_}
 use lib.ListN.{length, getD, take}
 use Rattle.literals.specs.Sets.{has}
-use Rattle.literals.specs.Words.{joined}
+use Rattle.literals.specs.inside.Words.{joined}
 use Rattle.program.specs.Program.{Rule, Program, defeasibles}
 use Rattle.program.specs.Limits.{Limits}
-use Rattle.program.specs.Table.{Holds}
+use Rattle.program.specs.inside.Table.{Holds}
 use Rattle.derivation.specs.Closure.{excludes}
 use Rattle.argument.specs.Argument.{literalOf}
 use Rattle.argument.specs.List.{argumentList}
-use Rattle.argument.specs.Closures.{Filled}
+use Rattle.argument.specs.inside.Closures.{Filled}
 
 -- the row of the literal l
 abbrev pub excludedBy : List ℕ → ℕ → ℕ

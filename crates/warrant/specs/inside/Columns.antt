@@ -1,7 +1,7 @@
--- The query over four tables of numbers, one for each field of the node entries. Assumes nothing.
+-- The query over four tables of numbers, one for each field of the node entries.
 use mathlib.Core.List.{List}
 use Prim.Native.Nat.{ℕ}
-use Rattle.tree.specs.Tables.{Columns, columns}
+use Rattle.tree.specs.inside.Tables.{Columns, columns}
 use Rattle.calls.specs.Calls.{queryColumn}
 
 -- what the query leaves in them, beside a node table of so many entries

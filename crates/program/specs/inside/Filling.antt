@@ -1,11 +1,11 @@
--- A rule table on its way: which rules it holds so far. Assumes nothing.
+-- A rule table on its way: which rules it holds so far.
 use mathlib.Core.Path.{_≡_}
 use mathlib.Core.Bool.{true}
 use mathlib.Core.List.{List}
 use Prim.Native.Nat.{ℕ, _<_}
 use lib.ListN.{length}
 use Rattle.program.specs.Program.{Rule, Program, isDefeasible, bitOf, ruleAt, beaten}
-use Rattle.program.specs.Table.{headAt, bodyAt, needAt, ruleOfBit, beatenAt, Row}
+use Rattle.program.specs.inside.Table.{headAt, bodyAt, needAt, ruleOfBit, beatenAt, Row}
 
 -- the same words in row i
 pub record SameRow (s t : List ℕ) (i : ℕ) : Type 0 where

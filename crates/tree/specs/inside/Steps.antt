@@ -1,4 +1,4 @@
--- What the steps of supporter and objector are asked, and what they leave. Assumes nothing.
+-- What the steps of supporter and objector are asked, and what they leave.
 use mathlib.Core.Path.{_≡_}
 use mathlib.Core.List.{List, [], _∷_}
 use mathlib.Core.Logic.{_≢_}
@@ -9,16 +9,16 @@ use Rattle.lists.specs.Lists.{Within}
 use Rattle.literals.specs.Sets.{choose, union}
 use Rattle.program.specs.Program.{Program, defeasibles}
 use Rattle.argument.specs.Argument.{maskOf}
-use Rattle.argument.specs.Closures.{Room}
+use Rattle.argument.specs.inside.Closures.{Room}
 use Rattle.defeat.specs.Tests.{Tests}
 use Rattle.preference.specs.Preference.{preferredTest}
-use Rattle.defeat.specs.Exclusions.{Ready as Made}
+use Rattle.defeat.specs.inside.Exclusions.{Ready as Made}
 use Rattle.defeat.specs.OfProgram.{testsOf}
 use Rattle.tree.specs.Reply.{mine, theirs, replyKind, lastKind}
 use Rattle.tree.specs.Forest.{none, tree, replies}
 use Rattle.tree.specs.Entries.{Entry, preorder}
 use Rattle.tree.specs.OfLiteral.{indexIn}
-use Rattle.tree.specs.Tables.{Columns, Hold, Built}
+use Rattle.tree.specs.inside.Tables.{Columns, Hold, Built}
 
 -- a table holds the line with its root first; as a list its last argument is first
 abbrev pub lineOf : List ℕ → (depth : ℕ) → List ℕ

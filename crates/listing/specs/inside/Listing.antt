@@ -1,4 +1,4 @@
--- The argument list, read off the closure table, and what the calls that write it return and leave. Assumes nothing.
+-- The argument list, read off the closure table, and what the calls that write it return and leave.
 use mathlib.Core.Path.{_≡_}
 use mathlib.Core.List.{List, _++_}
 use Prim.Native.Nat.{ℕ, _+_, _^_}
@@ -8,12 +8,12 @@ use lib.Seq.{sets}
 use Rattle.literals.specs.Sets.{has, choose}
 use Rattle.program.specs.Program.{Program}
 use Rattle.program.specs.Limits.{Limits}
-use Rattle.program.specs.Table.{Holds}
+use Rattle.program.specs.inside.Table.{Holds}
 use Rattle.listing.specs.declared.Listed.{Listed}
 use Rattle.listing.specs.declared.Listed.the-variants.{Count, Over}
-use Rattle.argument.specs.Fresh.{freshBy}
+use Rattle.argument.specs.inside.Fresh.{freshBy}
 use Rattle.argument.specs.List.{picked, listBy, argumentList}
-use Rattle.argument.specs.Closures.{closureAt}
+use Rattle.argument.specs.inside.Closures.{closureAt}
 
 -- the literals of the arguments with mask m, a mask of so many rules
 abbrev pub freshIn : List ℕ → ℕ → ℕ → ℕ

@@ -1,12 +1,12 @@
 -- The rule table: the words that the engine reads a program from, and which program they hold. Its layout stands here and
--- in the accessors, and nowhere else. Assumes nothing.
+-- in the accessors, and nowhere else.
 use mathlib.Core.Path.{_≡_}
 use mathlib.Core.Bool.{Bool, true, false}
 use mathlib.Core.List.{List}
 use Prim.Native.Nat.{ℕ, _+_, _*_, _^_, _<_, _≤_}
 use lib.ListN.{length, getD}
 use Rattle.literals.specs.Sets.{insertAll}
-use Rattle.literals.specs.Words.{joined}
+use Rattle.literals.specs.inside.Words.{joined}
 use Rattle.program.specs.Program.{Kind, strict, defeasible, Rule, Program, isDefeasible, defeasibles, bitOf, ruleAt, beaten}
 
 -- four words a rule: its head, its body as a set in two words, its need

@@ -1,4 +1,4 @@
--- The set that two words hold. Assumes nothing.
+-- The set that two words hold.
 use Prim.Native.Nat.{ℕ, _+_, _*_, _^_}
 use Rattle.literals.specs.declared.LiteralSet.{LiteralSet}
 

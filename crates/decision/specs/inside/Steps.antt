@@ -1,4 +1,4 @@
--- What the steps from a program to an answer are asked, and what they leave. Assumes nothing.
+-- What the steps from a program to an answer are asked, and what they leave.
 use mathlib.Core.Path.{_≡_}
 use mathlib.Core.Bool.{Bool}
 use mathlib.Core.List.{List, _∷_}
@@ -9,15 +9,15 @@ use Rattle.lists.specs.Lists.{any}
 use Rattle.literals.specs.Sets.{choose}
 use Rattle.program.specs.Program.{Rule, Program, defeasibles}
 use Rattle.program.specs.Limits.{Limits}
-use Rattle.program.specs.Table.{Holds}
+use Rattle.program.specs.inside.Table.{Holds}
 use Rattle.argument.specs.List.{argumentList}
-use Rattle.listing.specs.Listing.{withList}
-use Rattle.argument.specs.Closures.{Filled, Room}
-use Rattle.tree.specs.Tables.{Columns, Hold}
+use Rattle.listing.specs.inside.Listing.{withList}
+use Rattle.argument.specs.inside.Closures.{Filled, Room}
+use Rattle.tree.specs.inside.Tables.{Columns, Hold}
 use Rattle.answer.specs.declared.Answer.{Answer}
 use Rattle.answer.specs.declared.Answer.the-variants.{Refused}
 use Rattle.answer.specs.Answer.{tests, forestEntries, answer}
-use Rattle.answer.specs.Tables.{columnsAfter}
+use Rattle.answer.specs.inside.Columns.{columnsAfter}
 
 -- the atom of h stands in a rule
 abbrev pub standsIn : ℕ → Rule → Bool

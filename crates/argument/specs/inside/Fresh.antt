@@ -1,5 +1,4 @@
 -- All arguments with one mask as one set of literals: those that the mask derives and no mask with one rule less does.
--- Assumes nothing.
 use mathlib.Core.List.{List}
 use Prim.Native.Nat.{ℕ, zero, suc, _^_}
 use Rattle.literals.specs.Sets.{has, choose, minus, union, clash}

@@ -1,14 +1,14 @@
--- The closure table: two words for each mask, and what they say. Assumes nothing.
+-- The closure table: two words for each mask, and what they say.
 use mathlib.Core.Path.{_≡_}
 use mathlib.Core.Bool.{Bool, false, not, _&&_}
 use mathlib.Core.List.{List}
 use Prim.Native.Nat.{ℕ, _+_, _*_, _^_, _<_, _≤_}
 use lib.ListN.{length, getD}
 use Rattle.literals.specs.Sets.{within, clash}
-use Rattle.literals.specs.Words.{joined}
+use Rattle.literals.specs.inside.Words.{joined}
 use Rattle.program.specs.Program.{Rule}
-use Rattle.program.specs.Table.{ruleCount, bitCount, ruleOfBit, Shaped}
-use Rattle.argument.specs.Fresh.{maskClosure}
+use Rattle.program.specs.inside.Table.{ruleCount, bitCount, ruleOfBit, Shaped}
+use Rattle.argument.specs.inside.Fresh.{maskClosure}
 
 -- the entry of mask m
 abbrev pub closureAt : List ℕ → ℕ → ℕ

@@ -1,15 +1,10 @@
--- A node entry as a struct; and node entries as the rows of four tables of numbers, one for each field. Assumes nothing.
+-- Node entries as the rows of four tables of numbers, one for each field.
 use mathlib.Core.List.{List, map}
 use Prim.Native.Nat.{ℕ}
 use lib.ListN.{getD}
 use Rattle.lists.specs.Lists.{upto}
-use Rattle.tree.specs.Entries.{Entry}
-use Rattle.tree.specs.Tables.{Columns}
+use Rattle.tree.specs.inside.Tables.{Columns}
 use Rattle.nodes.specs.declared.Node.{Node}
-
--- "each with: index in the argument list; parent's node number ..; kind ..; mark"
-abbrev pub nodeOf : Entry → Node
-nodeOf e = record { argument = e .argument; parent = e .parent; kind = e .kind; mark = e .mark }
 
 -- entry i of each table, together
 abbrev pub rowAt : Columns → ℕ → Node

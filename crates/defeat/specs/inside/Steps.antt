@@ -1,4 +1,4 @@
--- What the private steps of the code compute. Assumes nothing.
+-- What the private steps of the code compute.
 use mathlib.Core.Path.{_≡_}
 use mathlib.Core.Bool.{Bool, true, not, _&&_}
 use mathlib.Core.List.{List}
@@ -8,8 +8,8 @@ use Rattle.literals.specs.Sets.{has, insert, within, meets}
 use Rattle.program.specs.Program.{Rule, Π}
 use Rattle.derivation.specs.Closure.{closure, excludes}
 use Rattle.argument.specs.Argument.{maskOf, literalOf}
-use Rattle.argument.specs.Closures.{closureAt}
-use Rattle.defeat.specs.Exclusions.{excludedBy}
+use Rattle.argument.specs.inside.Closures.{closureAt}
+use Rattle.defeat.specs.inside.Exclusions.{excludedBy}
 use Rattle.defeat.specs.Tests.{kindOf}
 
 -- s has those literals of u that exclude a

@@ -1,4 +1,4 @@
--- A forest in lent tables: one table of numbers for each field of the nodes' entries. Assumes nothing.
+-- A forest in lent tables: one table of numbers for each field of the nodes' entries.
 use mathlib.Core.Path.{_≡_}
 use mathlib.Core.List.{List, map}
 use Prim.Native.Nat.{ℕ, _+_, _<_, _≤_}
