@@ -9,7 +9,7 @@ ghost use Rattle.nodes.specs.inside.Rows.{rowAt, rows};
 use answer::Answer;
 
 // A node of a dialectical tree: its argument's index in the argument list, its parent's node number, its kind, its mark.
-// In C's layout, since tests lend such a table from outside.
+// In C's layout, since C programs lend such a table.
 #[repr(C)]
 pub struct Node {
     pub argument: u32,

@@ -1,5 +1,5 @@
--- Argumentation lines, dialectical trees and marks: as published (Line, Marks, Published), as computed (Reply, Forest,
--- Entries, OfLiteral), and in lent tables (Tables, Steps, Roots).
+-- Argumentation lines, dialectical trees and marks: as published (Line, Marks, Published) and as computed (Reply, Forest,
+-- Entries, OfLiteral).
 pub mod Line
 pub mod Marks
 pub mod Reply
