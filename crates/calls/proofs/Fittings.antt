@@ -2,8 +2,9 @@
 -- where one byte is another, or where the question does not fit.
 use mathlib.Core.Path.{_≡_, refl}
 use mathlib.Core.List.{List, [], _∷_, _++_, map}
-use Prim.Native.Nat.{ℕ, suc}
-use lib.ListN.{take, drop}
+use Prim.Native.Nat.{ℕ, zero, suc, _+_, _*_, _/_, _%_}
+use lib.ListN.{take, drop, replicate}
+use Rattle.lists.specs.Lists.{upto}
 use Rattle.literals.specs.Sets.{has, insert, clashBelow}
 use Rattle.program.specs.Program.{defeasiblesFrom, chosenFrom}
 use Rattle.layout.specs.declared.Verdict.{Verdict}
@@ -39,18 +40,50 @@ F-image =
 abbrev at : ℕ → ℕ → List ℕ → List ℕ
 at i byte image = take i image ++ (byte ∷ drop (suc i) image)
 
+-- a directory of n parts of one size from an offset on, and of an empty part after them
+abbrev directory : (offset size n : ℕ) → List ℕ
+directory offset size zero = offset % 256 ∷ offset / 256 ∷ 0 ∷ 0 ∷ []
+directory offset size (suc n) = offset % 256 ∷ offset / 256 ∷ size ∷ 0 ∷ directory (offset + size) size n
+
+-- n defeasible rules for the literals from h on, each with so many body literals
+abbrev rulesFrom : (h body n : ℕ) → List ℕ
+rulesFrom h body zero = []
+rulesFrom h body (suc n) = 1 ∷ h ∷ upto 100 body ++ rulesFrom (suc h) body n
+
+-- n such rules, and no pair
+abbrev many : (n body : ℕ) → List ℕ
+many n body =
+    (64 ∷ 0 ∷ n ∷ 0 ∷ 0 ∷ 0 ∷ 0 ∷ 0 ∷ []) ++ directory (12 + 4 * n) (2 + body) n ++ rulesFrom 0 body n
+
 -- an image, and document 01's word on it: 0 and 0 where it is accepted, else number and place
 abbrev spoilt : List (List ℕ × (ℕ × ℕ))
 spoilt =
     (F-image, (0, 0))
-    -- one byte short of the least image
+    -- the least image and one byte less, the longest and one byte more
+    ∷ (take 12 F-image, (3, 0))
     ∷ (take 11 F-image, (1, 0))
-    -- bytes 6-7 not zero; 65 atoms
+    ∷ (F-image ++ replicate 1802 0, (3, 0))
+    ∷ (F-image ++ replicate 1803 0, (1, 0))
+    -- bytes 6-7 not zero; 64 atoms, 96 rules, 240 pairs and one more of each
     ∷ (at 6 1 F-image, (2, 0))
+    ∷ (at 7 1 F-image, (2, 0))
+    ∷ (at 0 64 F-image, (0, 0))
     ∷ (at 0 65 F-image, (2, 0))
+    ∷ (at 2 96 F-image, (3, 0))
+    ∷ (at 2 97 F-image, (2, 0))
+    ∷ (at 4 240 F-image, (11, 0))
+    ∷ (at 4 241 F-image, (2, 0))
     -- the first offset; the last part ends before the image does
     ∷ (at 8 0x19 F-image, (3, 0))
     ∷ (F-image ++ (0 ∷ []), (3, 0))
+    -- rule 0 has one byte; 16 defeasible rules with 8 body literals, and with 9
+    ∷ (at 10 1 (at 12 0x19 (at 14 4 F-image)), (4, 0))
+    ∷ (many 16 8, (0, 0))
+    ∷ (many 16 9, (4, 0))
+    -- rule 1: a body of 1 and 1; rule 0 defeasible; a 17th defeasible rule
+    ∷ (at 14 4 (at 16 0x1E (at 18 2 (at 28 1 F-image))), (7, 1))
+    ∷ (at 24 1 F-image, (8, 0))
+    ∷ (many 17 8, (9, 16))
     -- rule 2: kind 2; head 4; both; as rule 1
     ∷ (at 29 2 F-image, (5, 2))
     ∷ (at 30 4 F-image, (6, 2))
@@ -61,6 +94,7 @@ spoilt =
     ∷ (at 4 2 (at 32 0 F-image), (11, 0))
     ∷ (at 32 0 F-image, (12, 0))
     ∷ (at 33 1 F-image, (12, 0))
+    ∷ (at 33 3 F-image, (12, 0))
     -- the pair twice; no pair, and two strict rules for a literal and its complement
     ∷ (at 4 2 (at 22 4 F-image) ++ (1 ∷ 2 ∷ []), (13, 1))
     ∷ (take 32 (at 4 0 (at 22 0 (at 26 0 (at 29 0 F-image)))), (14, 0))

@@ -2,7 +2,7 @@
 use mathlib.Core.Path.{_≡_, refl, sym, ap, _∙_, subst₂}
 use mathlib.Core.Bool.{Bool, true, false, _&&_, false≢true}
 use mathlib.Core.List.{List}
-use mathlib.Core.Logic.{_↔_}
+use mathlib.Core.Logic.{_↔_, _⊎_, inl, inr}
 use Prim.Native.Nat.{ℕ, zero, suc, _+_, _≤_, _<_}
 use native.Mathlib.Omega.{arith}
 use lib.ListN.{length}
@@ -286,6 +286,21 @@ module _ (s : List ℕ) where
   placed-small (causes.rule a b c d) = (omega arith, omega arith, omega arith)
   placed-small causes.last-part = (omega arith, omega arith, omega arith)
   placed-small (causes.pair a b c d) = (omega arith, omega arith, omega arith)
+
+  -- "Place is the rule or pair number for 4-10, 12 and 13, else 0": the reading gives 1 to 13, and 1 to 3 and 11 with 0
+  pub placed-numbers : {n place : ℕ} → Placed s n place → (1 ≤ n) × (n ≤ 13)
+  placed-numbers (causes.whole a b) = (omega arith, omega arith)
+  placed-numbers (causes.rule a b c d) = (omega arith, omega arith)
+  placed-numbers causes.last-part = (omega arith, omega arith)
+  placed-numbers (causes.pair a b c d) = (omega arith, omega arith)
+
+  pub placed-else : {n place : ℕ} → Placed s n place → (n ≤ 3) ⊎ (n ≡ 11) → place ≡ 0
+  placed-else (causes.whole a b) e = refl
+  placed-else (causes.rule a b c d) (inl e) = absurd (omega arith)
+  placed-else (causes.rule a b c d) (inr e) = absurd (omega arith)
+  placed-else causes.last-part e = refl
+  placed-else (causes.pair a b c d) (inl e) = absurd (omega arith)
+  placed-else (causes.pair a b c d) (inr e) = absurd (omega arith)
 
   image-small : {n place : ℕ} → ImageCause s n place → Bounded n place
   image-small (causes.reading r e) = placed-small r

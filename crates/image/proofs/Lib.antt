@@ -5,3 +5,4 @@ pub mod Whole
 pub mod Readings
 pub mod Accepted
 pub mod Beaten
+pub mod Limited
