@@ -52,7 +52,7 @@ pub record Decided (p : Program) (h budget : ℕ) (r : Answer) (before after : C
   pub result-is : r ≡ answer p h budget
   pub nodes-are : after ≡ columnsAfter r (forestEntries (tests p) h) before
 
--- the answer, unless there are "more arguments than the argument table holds"
+-- the answer, or 23: "More arguments than the argument table holds"
 abbrev pub settled : Program → (h budget room : ℕ) → Answer
 settled p h budget room = choose (leb (length (argumentList (p .rules))) room) (answer p h budget) (Refused 23 0)
 

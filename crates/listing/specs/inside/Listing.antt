@@ -32,7 +32,7 @@ pub record Written (before after : List ℕ) (at next : ℕ) (l : List ℕ) : Ty
   pub stored : after ≡ sets before at l
   pub next-is : next ≡ at + length l
 
--- "listing returns the argument count", unless there are "more arguments than the argument table holds"
+-- "listing returns the argument count", or says "More arguments than the argument table holds"
 abbrev pub listed : List ℕ → List ℕ → Listed
 listed l table = choose (leb (length l) (length table)) (Count (length l)) Over
 
