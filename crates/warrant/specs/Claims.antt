@@ -36,7 +36,7 @@ pub record Demand-1 : Type 0 where
       → length (queryArguments image h budget table nodeRoom) ≡ length table
   pub nodes-length : (image : List ℕ) (h budget argumentRoom : ℕ) (table : List Node)
       → length (queryNodes image h budget argumentRoom table) ≡ length table
-  -- a call is accepted where no cause applies, else refused by a listed one that does
+  -- a call is accepted where no cause applies, else refused by the first that does
   pub check-judged : (image : List ℕ) → Judged (ImageCause image) (checkImage image)
   pub list-judged : (image : List ℕ) (room : ℕ) → Judged (ListCause image room) (listVerdict image room)
   pub call-judged : (image : List ℕ) (c : Call) → Judged (QueryCause image (asked c)) (verdictOf image c)
