@@ -80,6 +80,7 @@ class Foqtirel:
 
 
 def declared(call, result, parameters):
+    # Undeclared, a result is cut to an int, and a refusal at place 0 reads as success.
     call.restype, call.argtypes = result, parameters
     return call
 

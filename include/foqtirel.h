@@ -31,16 +31,22 @@ extern "C" {
 /* The greatest budget, in nodes of the literal's dialectical trees. */
 #define FOQTIREL_MOST_NODES 4096u
 
-/* Entries of foqtirel_query's own argument table: in one of so many, foqtirel_trees gives the same answers and refusals. */
+/*
+ * Entries of foqtirel_query's own argument table: with one of so many, and with a node table of at least budget entries,
+ * foqtirel_trees gives the same answers and refusals.
+ */
 #define FOQTIREL_ARGUMENTS 4096u
 
-/* An argument is mask * 128 + literal: bit b of the mask is set if it uses the defeasible rule number b among those. */
+/*
+ * An argument is mask * 128 + literal: bit b of the mask is set if it uses the b-th defeasible rule of the table, counted
+ * from 0. A node has its argument's place in the list: its literal is FOQTIREL_LITERAL(arguments[node.argument]).
+ */
 #define FOQTIREL_MASK(argument) ((uint32_t)(argument) >> 7)
 #define FOQTIREL_LITERAL(argument) ((uint32_t)(argument) & 127u)
 
 /* A node of a literal's trees. They stand in preorder; a call may write the padding, too. */
 struct foqtirel_node {
-    uint32_t argument; /* its argument's place in the argument list */
+    uint32_t argument; /* its argument's place in the argument list: arguments[node.argument] is the argument */
     uint32_t parent;   /* its parent's number among the nodes; a root has its own */
     uint8_t kind;
     uint8_t mark;
@@ -68,7 +74,8 @@ struct foqtirel_node {
  * These figures are measured, not proved: the tests run the calls on threads with such stacks. For programs with up to 12
  * defeasible rules and with 16 of them they found enough, with short lines: 76 and 1,100 KiB for foqtirel_list, 132 and
  * 1,156 KiB for foqtirel_trees, 196 and 1,220 KiB for foqtirel_query; and 252 bytes for each argument more on a line. For
- * foqtirel_check 16 KiB are enough, and no thread has less. A smaller stack is overrun, as it would be by any C function.
+ * foqtirel_check 16 KiB are enough, and glibc makes no thread with less. A smaller stack is overrun, as it would be by any
+ * C function.
  */
 #define FOQTIREL_STACK_MOST (4u * 1024u * 1024u)
 #define FOQTIREL_STACK_12_RULES (512u * 1024u)
@@ -91,7 +98,7 @@ struct foqtirel_node {
  */
 #define FOQTIREL_IMAGE_LENGTH 1u            /* image under 12 or over 1,836 bytes */
 #define FOQTIREL_HEADER 2u                  /* a count over its limit, or bytes 6 and 7 not zero */
-#define FOQTIREL_DIRECTORY 3u               /* the directory doesn't fit the image, or an offset is wrong */
+#define FOQTIREL_DIRECTORY 3u               /* the directory doesn't fit the image, or the parts don't fill the rest */
 #define FOQTIREL_RULE_LENGTH 4u             /* a rule under 2 or over 10 bytes */
 #define FOQTIREL_RULE_KIND 5u               /* a kind that is neither 0 nor 1 */
 #define FOQTIREL_LITERAL_RANGE 6u           /* a literal not below 2 * the atom count */
@@ -108,10 +115,13 @@ struct foqtirel_node {
 #define FOQTIREL_NODE_TABLE 22u             /* trees: the node table has fewer entries than the budget */
 #define FOQTIREL_ARGUMENT_TABLE 23u         /* list, trees, query: more arguments than the argument table has entries */
 
-/* A result of foqtirel_query taken apart. A refused result has code 0, so a refusal is never taken for an answer. */
-#define FOQTIREL_REFUSED(result) ((uint32_t)(result) < 65536u)
-#define FOQTIREL_CODE(result) ((uint32_t)(result) >> 16)
-#define FOQTIREL_NODES(result) ((uint32_t)(result) & 65535u)
+/*
+ * A result of foqtirel_query taken apart. A refused result has code 0, so a refusal is never taken for an answer. A number
+ * of 64 bits, such as a result of the other calls, does not compile here.
+ */
+#define FOQTIREL_REFUSED(result) (FOQTIREL_32_BITS(result) < 65536u)
+#define FOQTIREL_CODE(result) (FOQTIREL_32_BITS(result) >> 16)
+#define FOQTIREL_NODES(result) (FOQTIREL_32_BITS(result) & 65535u)
 
 /*
  * A result of foqtirel_check, foqtirel_list or foqtirel_trees taken apart: whether it is a refusal; of a refusal its number
@@ -127,6 +137,8 @@ struct foqtirel_node {
 #define FOQTIREL_NODES64(result) ((uint32_t)FOQTIREL_64_BITS(result) & 65535u)
 
 /* The number itself, or an array of -1 entries, which no compiler takes. */
+#define FOQTIREL_32_BITS(result) \
+    ((uint32_t)(result) + 0u * (uint32_t)sizeof(char[sizeof(result) == sizeof(uint32_t) ? 1 : -1]))
 #define FOQTIREL_64_BITS(result) ((uint64_t)(result) + 0u * sizeof(char[sizeof(result) == sizeof(uint64_t) ? 1 : -1]))
 
 /*
@@ -137,6 +149,9 @@ struct foqtirel_node {
  *                   with FOQTIREL_IMAGE_LENGTH. With any other length, image has to point to that many readable bytes.
  *   a table, room   what a call writes to: a table of that many entries, with any contents. NULL with 0 entries is a table
  *                   without entries. Tables must not overlap each other or the image.
+ *
+ * Keep all 64 bits of a result that has them: the lower half of a refusal is its place, often 0, so that in an int it would
+ * read as success.
  *
  * A refusal leaves every table as it was. After any other result the entries that the call is said to write have the
  * contents it is said to write, and all others keep theirs.
@@ -158,7 +173,8 @@ uint64_t foqtirel_check(const uint8_t *image, size_t length);
  *
  *   arguments, room   the argument table. The list is written to its front: each argument once, as mask * 128 + literal,
  *                     ascending (see FOQTIREL_MASK and FOQTIREL_LITERAL). If it has too few entries for that, the call is
- *                     refused with FOQTIREL_ARGUMENT_TABLE.
+ *                     refused with FOQTIREL_ARGUMENT_TABLE. How many would do is not told; 1,235,520 are always enough: at
+ *                     most 96 literals are heads, and each has at most 12,870 masks, since none is within another.
  *
  * Returns how many arguments there are, or a refusal as foqtirel_check does. See FOQTIREL_REFUSED64 and FOQTIREL_COUNT64.
  */

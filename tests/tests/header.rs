@@ -71,22 +71,42 @@ fn every_macro_on_every_result() {
     }
 }
 
-/// What takes 64 bits apart doesn't take the 32 of `foqtirel_query`, whose refusals would pass for answers there.
+/// What takes 64 bits apart doesn't take the 32 of `foqtirel_query`, whose refusals would pass for answers there; and the
+/// other way round, where the number of arguments would.
 #[test]
-fn results_of_32_bits_do_not_pass_for_64() {
-    let source = temporary("narrow.c");
+fn results_of_32_and_of_64_bits_do_not_pass_for_each_other() {
+    let source = temporary("width.c");
+    let as_cpp = temporary("width.cpp");
+    let program = temporary("width");
     let compiles = |result: &str, name: &str| {
         let text = format!(
-            "#include \"foqtirel.h\"\nint main(void)\n{{\n    return (int)FOQTIREL_{name}64({result});\n}}\n"
+            "#include \"foqtirel.h\"\nint main(void)\n{{\n    return (int)FOQTIREL_{name}({result});\n}}\n"
         );
-        fs::write(&source, text).expect("a source");
-        run(&mut c_compilation(&source, &temporary("narrow")))
-            .status
-            .success()
+        fs::write(&source, &text).expect("a source");
+        fs::write(&as_cpp, &text).expect("a source");
+        let compiled = run(&mut c_compilation(&source, &program)).status.success();
+        if let Some(mut compiler) = cpp_compilation(&as_cpp, &program) {
+            let agrees = run(&mut compiler).status.success() == compiled;
+            assert!(agrees, "{name}: C++ is of another mind than C");
+        }
+        compiled
     };
+    let wide = [
+        "foqtirel_check(NULL, 0)",
+        "foqtirel_list(NULL, 0, NULL, 0)",
+        "foqtirel_trees(NULL, 0, 0, 0, NULL, 0, NULL, 0)",
+    ];
+    let narrow = "foqtirel_query(NULL, 0, 0, 0)";
     for name in ["REFUSED", "NUMBER", "PLACE", "COUNT", "CODE", "NODES"] {
-        assert!(compiles("foqtirel_check(NULL, 0)", name), "{name}");
-        assert!(!compiles("foqtirel_query(NULL, 0, 0, 0)", name), "{name}");
+        let name = format!("{name}64");
+        assert!(compiles(wide[0], &name), "{name}");
+        assert!(!compiles(narrow, &name), "{name}");
+    }
+    for name in ["REFUSED", "CODE", "NODES"] {
+        assert!(compiles(narrow, name), "{name}");
+        for result in wide {
+            assert!(!compiles(result, name), "{name} of {result}");
+        }
     }
 }
 

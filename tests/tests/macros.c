@@ -108,6 +108,8 @@ static int results_of_query(void)
     DEMAND(!FOQTIREL_REFUSED(result) && FOQTIREL_CODE(result) == FOQTIREL_UNFINISHED && FOQTIREL_NODES(result) == 2u);
     result = 3u * 65536u + 7u;
     DEMAND(!FOQTIREL_REFUSED(result) && FOQTIREL_CODE(result) == FOQTIREL_UNDECIDED && FOQTIREL_NODES(result) == 7u);
+    DEMAND(FOQTIREL_REFUSED(FOQTIREL_BUDGET) && FOQTIREL_CODE(5u * 65536u) == 5u && FOQTIREL_NODES(result + 1u) == 8u);
+    DEMAND(!FOQTIREL_REFUSED(UINT32_MAX) && FOQTIREL_CODE(UINT32_MAX) == 65535u && FOQTIREL_NODES(UINT32_MAX) == 65535u);
     result = query(128, 0);
     DEMAND(FOQTIREL_REFUSED(result) && result == FOQTIREL_QUERY_LITERAL && FOQTIREL_CODE(result) == 0u);
     result = foqtirel_query(NULL, 0, 2, FOQTIREL_MOST_NODES);

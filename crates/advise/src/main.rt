@@ -2,7 +2,7 @@
 // literals. A read or a write that fails ends it with a line on standard error.
 ghost use Prim.Native.Nat.{_≤_};
 ghost use lib.ListN.{length};
-ghost use Rattle.advise.specs.Input.{Within};
+ghost use Rattle.advise.specs.inside.Input.{Within};
 use warrant::Listed;
 
 enum Input {

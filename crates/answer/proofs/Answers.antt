@@ -1,4 +1,4 @@
--- When each answer is given, both ways; and its number of nodes. Assumes nothing.
+-- When each answer is given, both ways; and its number of nodes.
 use mathlib.Core.Path.{_≡_, refl}
 use mathlib.Core.Bool.{Bool, true, false, not}
 use mathlib.Core.Logic.{_↔_}

@@ -1,5 +1,5 @@
 -- The twelve fittings of document 01, evaluated on the definitions: "These twelve form a small table, proved as a whole
--- about the definitions". Assumes nothing.
+-- about the definitions".
 use mathlib.Core.Path.{_≡_, refl}
 use mathlib.Core.List.{List, [], _∷_, map}
 use Prim.Native.Nat.{ℕ}

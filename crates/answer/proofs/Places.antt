@@ -1,4 +1,4 @@
--- The roots of a forest. Assumes nothing.
+-- The roots of a forest.
 use mathlib.Core.Path.{_≡_, refl}
 use mathlib.Core.Bool.{Bool, true, false, not, _&&_, _||_}
 use mathlib.Core.List.{List, [], _∷_}

@@ -1,5 +1,5 @@
 -- Warrant: what is computed is what is published, a warranted literal's atom stands in some rule, and literals that
--- exclude each other are never both warranted. Assumes nothing.
+-- exclude each other are never both warranted.
 use mathlib.Core.Path.{_≡_, refl, subst}
 use mathlib.Core.Bool.{Bool}
 use mathlib.Core.List.{List, [], _∷_, List·Memᴰ, List·Memᴰ·head, List·Memᴰ·tail, List·Memᴰ·not-nil}

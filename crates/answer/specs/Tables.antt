@@ -1,10 +1,8 @@
 -- What an answer leaves in the lent tables (document 01, "Answers").
-use mathlib.Core.Bool.{Bool, true, false}
 use mathlib.Core.List.{List, _++_, map}
 use Prim.Native.Nat.{ℕ}
 use lib.ListN.{length, drop, replicate}
 use Rattle.tree.specs.Entries.{Entry}
-use Rattle.tree.specs.Tables.{Columns, columns}
 use Rattle.answer.specs.declared.Answer.{Answer}
 use Rattle.answer.specs.declared.Answer.the-variants.{Yes, No, Undecided, Unknown, Unfinished, Refused}
 
@@ -28,23 +26,3 @@ zeroed = record { argument = 0; parent = 0; kind = 0; mark = 0 }
 -- one field of the entries in a table of its own
 abbrev pub columnAfter : {A : Type 0} → (Entry → A) → Answer → List Entry → List A → List A
 columnAfter field a forest table = nodesAfter a (map field forest) (field zeroed) table
-
--- four tables of numbers, one for each field
-abbrev pub columnsAfter : Answer → List Entry → Columns → Columns
-columnsAfter a forest t = columns
-    (columnAfter (λ e. e .argument) a forest (t .arguments))
-    (columnAfter (λ e. e .parent) a forest (t .parents))
-    (columnAfter (λ e. e .kind) a forest (t .kinds))
-    (columnAfter (λ e. e .mark) a forest (t .marks))
-
--- the first n entries of each zeroed
-abbrev pub cleared : ℕ → Columns → Columns
-cleared n t = columns
-    (front (replicate n 0) (t .arguments))
-    (front (replicate n 0) (t .parents))
-    (front (replicate n 0) (t .kinds))
-    (front (replicate n 0) (t .marks))
-
-abbrev pub clearedIf : Bool → ℕ → Columns → Columns
-clearedIf true n t = cleared n t
-clearedIf false n t = t

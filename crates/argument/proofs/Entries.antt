@@ -1,4 +1,4 @@
--- Entries of the closure table: which of them stand for a mask, given those of the masks with one rule less. Assumes nothing.
+-- Entries of the closure table: which of them stand for a mask, given those of the masks with one rule less.
 use mathlib.Core.Path.{_≡_, refl, sym, ap, ap₂, _∙_, subst}
 use mathlib.Core.Bool.{Bool, true, false, not, _&&_, false≢true}
 use mathlib.Core.List.{List}
@@ -13,7 +13,7 @@ use lib.Pow.{pow-mono}
 use lib.Seq.{getD-set-same, getD-set-other}
 use borrow.Author.Tests.{ne-eqb}
 use Rattle.literals.specs.Sets.{has, insert, insertAll, hasAll, minus, union, within, clash}
-use Rattle.literals.specs.Words.{joined}
+use Rattle.literals.specs.inside.Words.{joined}
 use Rattle.literals.proofs.Tests.{and-left, and-right, and-intro, not-true-false}
 use Rattle.literals.proofs.Members.{has-minus-power, has-insert-same, insert-keeps, has-empty}
 use Rattle.literals.proofs.Lists.{hasAll-within, hasAll-each}
@@ -22,13 +22,13 @@ use Rattle.program.specs.Program.{Rule, bitOf, ruleAt, Π-mask, Π}
 use Rattle.program.specs.Limits.{DefeasibleAt}
 use Rattle.program.proofs.Numbers.{defeasible-test, defeasible-found, bit-of-same}
 use Rattle.derivation.specs.Closure.{closure}
-use Rattle.derivation.specs.Parts.{StrictOf, Parted}
+use Rattle.derivation.specs.inside.Parts.{StrictOf, Parted}
 use Rattle.derivation.proofs.Rounds.{Closed}
 use Rattle.derivation.proofs.Closures.{closure-closed}
 use Rattle.derivation.proofs.Parts.{parted-none, parted-closed, parted-union}
 use Rattle.derivation.proofs.Choices.{Π-with-at, Π-mask-empty}
-use Rattle.argument.specs.Fresh.{maskClosure}
-use Rattle.argument.specs.Closures.{closureAt, Stands, Filled, applies, Room}
+use Rattle.argument.specs.inside.Fresh.{maskClosure}
+use Rattle.argument.specs.inside.Closures.{closureAt, Stands, Filled, applies, Room}
 use Rattle.argument.proofs.MaskClosures.{minus-subset, mask-strict, mask-closure-mono, mask-contradictory-mono}
 use Rattle.argument.proofs.MaskClosures.{mask-closure-idle, mask-closure-strict}
 use Rattle.argument.proofs.Tables.{RuleOf}

@@ -1,5 +1,4 @@
 -- The loops that fill the closure table, a lemma for each turn and for each way out, over plain numbers.
--- Assumes nothing.
 use mathlib.Core.Path.{_≡_, refl, sym, ap, _∙_, subst}
 use mathlib.Core.Bool.{true, false}
 use mathlib.Core.List.{List}
@@ -7,15 +6,15 @@ use Prim.Native.Nat.{ℕ, _+_, _*_, _^_, _<_}
 use native.Mathlib.Omega.{arith}
 use lib.ListN.{length, set, length-set}
 use Rattle.literals.specs.Sets.{has, insert, insertAll, minus, union, within}
-use Rattle.literals.specs.Words.{joined}
+use Rattle.literals.specs.inside.Words.{joined}
 use Rattle.literals.proofs.Members.{has-bound, minus-less}
 use Rattle.literals.proofs.Within.{within-each, within-refl, within-trans, minus-within}
 use Rattle.program.specs.Program.{Program, ruleAt, Π-mask, Π}
 use Rattle.program.specs.Limits.{Limits}
-use Rattle.program.specs.Table.{headAt, bodyAt, ruleOfBit, ruleCount, bitCount, Holds}
+use Rattle.program.specs.inside.Table.{headAt, bodyAt, ruleOfBit, ruleCount, bitCount, Holds}
 use Rattle.derivation.specs.Closure.{closure}
-use Rattle.derivation.specs.Parts.{StrictOf, Parted}
-use Rattle.argument.specs.Closures.{closureAt, Stands, Filled, applies, Numbered}
+use Rattle.derivation.specs.inside.Parts.{StrictOf, Parted}
+use Rattle.argument.specs.inside.Closures.{closureAt, Stands, Filled, applies, Numbered}
 use Rattle.argument.proofs.Tables.{RuleOf, table-rule}
 use Rattle.argument.proofs.Entries.{stands-copy, Begun, begun-none, begun-more, begun-settled, begun-closed, filled-more}
 

@@ -1,4 +1,4 @@
--- What Π with a mask derives, as the mask grows and shrinks. Assumes nothing.
+-- What Π with a mask derives, as the mask grows and shrinks.
 use mathlib.Core.Path.{_≡_, sym, ap, _∙_}
 use mathlib.Core.Bool.{true, false, not, false≢true}
 use mathlib.Core.List.{List, List·Memᴰ}
@@ -19,7 +19,7 @@ use Rattle.derivation.proofs.Chains.{derives-mono}
 use Rattle.derivation.proofs.Contradictions.{contradictory-mono}
 use Rattle.derivation.proofs.Choices.{Π-with-mono, Π-with-rules, Π-with-cases, Π-with-but-one}
 use Rattle.argument.specs.Argument.{Subset}
-use Rattle.argument.specs.Fresh.{maskClosure}
+use Rattle.argument.specs.inside.Fresh.{maskClosure}
 
 -- the mask without one bit
 pub minus-subset : (m b : ℕ) → Subset (minus m (2 ^ b)) m

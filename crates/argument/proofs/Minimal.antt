@@ -1,5 +1,4 @@
 -- A mask is minimal exactly if no single rule of it can be left out; so the test `isArgument` says what an argument is.
--- Assumes nothing.
 use mathlib.Core.Path.{_≡_, refl, sym, ap, _∙_, subst}
 use mathlib.Core.Bool.{Bool, true, false, not, _&&_, false≢true}
 use mathlib.Core.List.{List}

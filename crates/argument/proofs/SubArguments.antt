@@ -1,4 +1,4 @@
--- The literals of the sub-arguments of an argument are those that its mask derives. Assumes nothing.
+-- The literals of the sub-arguments of an argument are those that its mask derives.
 use mathlib.Core.Path.{_≡_, refl, sym, ap, _∙_, subst, subst₂}
 use mathlib.Core.Bool.{Bool, true, false, _&&_, false≢true}
 use mathlib.Core.List.{List}
@@ -16,7 +16,7 @@ use Rattle.derivation.specs.Closure.{derives, contradictory}
 use Rattle.derivation.proofs.Chains.{derives-complete}
 use Rattle.argument.specs.Argument.{Subset, Argument, SubArgument, maskOf, literalOf}
 use Rattle.argument.specs.List.{derivesWithout}
-use Rattle.argument.specs.Fresh.{maskClosure}
+use Rattle.argument.specs.inside.Fresh.{maskClosure}
 use Rattle.argument.proofs.MaskClosures.{minus-subset, mask-derives-mono, mask-contradictory-mono}
 use Rattle.argument.proofs.Minimal.{Needs, argument-by-one, argument-literal-below}
 

@@ -1,4 +1,4 @@
--- The tables of a program within the limits: the bits of its rules, and room for its closures. Assumes nothing.
+-- The tables of a program within the limits: the bits of its rules, and room for its closures.
 use mathlib.Core.Path.{_≡_, refl, sym, ap, _∙_, subst}
 use mathlib.Core.List.{List}
 use Prim.Native.Nat.{ℕ, _*_, _^_, _<_, _≤_}
@@ -7,10 +7,10 @@ use lib.ListN.{length}
 use lib.Pow.{pow-mono}
 use Rattle.program.specs.Program.{Rule, Program, bitOf}
 use Rattle.program.specs.Limits.{DefeasibleAt, Limits}
-use Rattle.program.specs.Table.{ruleOfBit, bitCount, Holds}
+use Rattle.program.specs.inside.Table.{ruleOfBit, bitCount, Holds}
 use Rattle.program.proofs.Numbers.{defeasible-test, bit-of-found}
 use Rattle.derivation.proofs.Tables.{limits-shaped}
-use Rattle.argument.specs.Closures.{Numbered, Room}
+use Rattle.argument.specs.inside.Closures.{Numbered, Room}
 
 -- the rule with bit b
 pub record RuleOf (rules : List Rule) (b i : ℕ) : Type 0 where

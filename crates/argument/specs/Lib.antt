@@ -1,5 +1,4 @@
--- What an argument is, the list of all arguments, and the closure table that it is read from.
+-- What an argument is, and the list of all arguments.
 pub mod Argument
 pub mod List
-pub mod Fresh
-pub mod Closures
+pub mod inside

@@ -73,13 +73,18 @@ spoilt =
     ∷ (at 2 97 F-image, (2, 0))
     ∷ (at 4 240 F-image, (11, 0))
     ∷ (at 4 241 F-image, (2, 0))
-    -- the first offset; the last part ends before the image does
+    -- the first offset; a later one; the last part ends before the image does
     ∷ (at 8 0x19 F-image, (3, 0))
+    ∷ (at 12 0x1B F-image, (3, 0))
     ∷ (F-image ++ (0 ∷ []), (3, 0))
     -- rule 0 has one byte; 16 defeasible rules with 8 body literals, and with 9
     ∷ (at 10 1 (at 12 0x19 (at 14 4 F-image)), (4, 0))
     ∷ (many 16 8, (0, 0))
     ∷ (many 16 9, (4, 0))
+    -- a body literal that is not below 2 × A; one of 17 rules strict; strict, with the head and body of rule 1
+    ∷ (at 28 4 F-image, (6, 1))
+    ∷ (at 80 0 (many 17 8), (0, 0))
+    ∷ (at 29 0 (at 30 2 F-image), (12, 0))
     -- rule 1: a body of 1 and 1; rule 0 defeasible; a 17th defeasible rule
     ∷ (at 14 4 (at 16 0x1E (at 18 2 (at 28 1 F-image))), (7, 1))
     ∷ (at 24 1 F-image, (8, 0))
@@ -89,12 +94,22 @@ spoilt =
     ∷ (at 30 4 F-image, (6, 2))
     ∷ (at 30 4 (at 29 2 F-image), (5, 2))
     ∷ (at 30 2 F-image, (10, 2))
+    -- in one rule: 4 before 5, 6 before 7, 8 before 9, 9 before 10
+    ∷ (at 76 2 (many 16 9), (4, 0))
+    ∷ (at 14 4 (at 16 0x1E (at 18 2 (at 28 5 F-image))), (6, 1))
+    ∷ (take 242 (at 74 2 (at 76 242 (many 17 8))), (8, 16))
+    ∷ (at 241 0 (many 17 8), (9, 16))
     -- rule 2 is rejected before the last part, the last part before the pair, the pair's names before Π
     ∷ (at 4 2 (at 29 2 F-image), (5, 2))
     ∷ (at 4 2 (at 32 0 F-image), (11, 0))
     ∷ (at 32 0 F-image, (12, 0))
     ∷ (at 33 1 F-image, (12, 0))
     ∷ (at 33 3 F-image, (12, 0))
+    -- (1, 2) then (2, 1), then the other way; (1, 1) after (1, 2); 13 at pair 1 before 12 at pair 2
+    ∷ (at 4 2 (at 22 4 F-image) ++ (2 ∷ 1 ∷ []), (0, 0))
+    ∷ (at 4 2 (at 22 4 (at 32 2 (at 33 1 F-image))) ++ (1 ∷ 2 ∷ []), (13, 1))
+    ∷ (at 4 2 (at 22 4 F-image) ++ (1 ∷ 1 ∷ []), (12, 1))
+    ∷ (at 4 3 (at 22 6 F-image) ++ (1 ∷ 2 ∷ 0 ∷ 0 ∷ []), (13, 1))
     -- the pair twice; no pair, and two strict rules for a literal and its complement
     ∷ (at 4 2 (at 22 4 F-image) ++ (1 ∷ 2 ∷ []), (13, 1))
     ∷ (take 32 (at 4 0 (at 22 0 (at 26 0 (at 29 0 F-image)))), (14, 0))

@@ -1,4 +1,4 @@
--- The list call, by what the check and the argument list's own part answer. Assumes nothing.
+-- The list call, by what the check and the argument list's own part answer.
 use mathlib.Core.Path.{_≡_, refl, sym, ap, ap₂, _∙_}
 use mathlib.Core.Bool.{Bool, true, false}
 use mathlib.Core.List.{List, _++_}
@@ -10,7 +10,7 @@ use borrow.Author.Tests.{leb-true, leb-false, lt-ltb, le-ltb}
 use Rattle.literals.specs.Sets.{choose}
 use Rattle.listing.specs.declared.Listed.{Listed}
 use Rattle.listing.specs.declared.Listed.the-variants as parts
-use Rattle.listing.specs.Listing.{listed as listedIn, withList}
+use Rattle.listing.specs.inside.Listing.{listed as listedIn, withList}
 use Rattle.layout.specs.declared.Verdict.{Verdict}
 use Rattle.layout.specs.declared.Verdict.the-variants as verdicts
 use Rattle.layout.specs.Causes.{refuse, andThen}

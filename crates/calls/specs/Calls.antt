@@ -18,7 +18,7 @@ use Rattle.answer.specs.declared.Answer.the-variants.{Yes, No, Undecided, Unkno
 use Rattle.calls.specs.declared.Listed.{Listed}
 use Rattle.calls.specs.declared.Listed.the-variants as lists
 use Rattle.nodes.specs.declared.Node.{Node}
-pub use Rattle.nodes.specs.Rows.{nodeOf}
+pub use Rattle.nodes.specs.Nodes.{nodeOf}
 pub use Rattle.answer.specs.Tables.{front, nodesAfter, zeroed, columnAfter}
 use Rattle.answer.specs.Answer.{tests, forestEntries, answer, codeOf, nodesOf}
 

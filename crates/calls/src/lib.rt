@@ -2,7 +2,7 @@
 // call.
 ghost use mathlib.Core.Path.{_≡_};
 ghost use lib.ListN.{length};
-ghost use Rattle.program.specs.Table.{Holds};
+ghost use Rattle.program.specs.inside.Table.{Holds};
 ghost use Rattle.layout.specs.Reading.{programIn};
 ghost use Rattle.calls.specs.Calls.{checkImage, listed, listTable};
 use layout::Verdict;

@@ -1,4 +1,4 @@
--- From the forest to the answer and what it leaves in the four tables. Assumes nothing.
+-- From the forest to the answer and what it leaves in the four tables.
 use mathlib.Core.Path.{_≡_, refl, sym, ap, ap₂, _∙_, subst}
 use mathlib.Core.Bool.{Bool, true, false}
 use mathlib.Core.List.{List, _++_, map}
@@ -10,19 +10,20 @@ use borrow.Author.Tests.{lt-ltb, le-ltb, ltb-true, ltb-false}
 use lib.ListN.{length, take, drop, replicate, length-replicate}
 use lib.Seq.{sets}
 use Rattle.program.specs.Program.{Program}
-use Rattle.program.specs.Table.{Holds}
+use Rattle.program.specs.inside.Table.{Holds}
 use Rattle.derivation.specs.Derivation.{complement}
-use Rattle.defeat.specs.Exclusions.{Excluded, Conclusions}
+use Rattle.defeat.specs.inside.Exclusions.{Excluded, Conclusions}
 use Rattle.tree.specs.Entries.{Entry}
-use Rattle.tree.specs.Tables.{Columns, columns, written, past, Hold, Built}
-use Rattle.tree.specs.Steps.{Prepared}
-use Rattle.tree.specs.Roots.{RootsReady, ForestBuilt}
+use Rattle.tree.specs.inside.Tables.{Columns, columns, written, past, Hold, Built}
+use Rattle.tree.specs.inside.Steps.{Prepared}
+use Rattle.tree.specs.inside.Roots.{RootsReady, ForestBuilt}
 use Rattle.tree.proofs.Tables.{column-front, columns-same}
 use Rattle.answer.specs.declared.Answer.{Answer}
 use Rattle.answer.specs.declared.Answer.the-variants.{Yes, Unknown, Unfinished}
 use Rattle.answer.specs.Answer.{occurs, nodeCount, forestEntries, warranted, answerOf, answerBy, tests, answer}
-use Rattle.answer.specs.Tables.{front, columnsAfter, cleared, clearedIf}
-use Rattle.decision.specs.Steps.{Held, Asked, Listing, Decidable, Decided}
+use Rattle.answer.specs.Tables.{front}
+use Rattle.answer.specs.inside.Columns.{columnsAfter, cleared, clearedIf}
+use Rattle.decision.specs.inside.Steps.{Held, Asked, Listing, Decidable, Decided}
 use Rattle.answer.proofs.Answers.{entries-count}
 use Rattle.outcome.proofs.Concluded.{Concluded}
 

@@ -1,4 +1,4 @@
--- A literal's atom in a row of the rule table, and in the rules from one on. Assumes nothing.
+-- A literal's atom in a row of the rule table, and in the rules from one on.
 use mathlib.Core.Path.{_≡_, refl, sym, ap, ap₂, _∙_, subst}
 use mathlib.Core.Bool.{Bool, true, false, _||_}
 use mathlib.Core.List.{List, [], _∷_, List·Memᴰ, List·Memᴰ·not-nil}
@@ -16,9 +16,9 @@ use Rattle.literals.proofs.Tests.{true-T, T-true, same-test, or-left, or-right,
 use Rattle.literals.proofs.Members.{has-empty}
 use Rattle.literals.proofs.Lists.{insertAll-cases, has-insertAll}
 use Rattle.program.specs.Program.{Rule, Program, fact, ruleAt}
-use Rattle.program.specs.Table.{headAt, bodyAt, Row, Holds}
+use Rattle.program.specs.inside.Table.{headAt, bodyAt, Row, Holds}
 use Rattle.answer.specs.Answer.{occurs}
-use Rattle.decision.specs.Steps.{standsIn}
+use Rattle.decision.specs.inside.Steps.{standsIn}
 
 -- ---- in a body as a set
 

@@ -1,4 +1,4 @@
--- The argument list in its table, and the answer after it. Assumes nothing.
+-- The argument list in its table, and the answer after it.
 use mathlib.Core.Path.{_≡_, refl, sym, ap, _∙_, subst}
 use mathlib.Core.Bool.{Bool, true, false}
 use mathlib.Core.List.{List, _++_}
@@ -10,17 +10,17 @@ use lib.Seq.{take-append-seam}
 use lib.Pow.{pow-mono}
 use Rattle.literals.specs.Sets.{choose}
 use Rattle.program.specs.Program.{Program, defeasibles}
-use Rattle.program.specs.Table.{bitCount}
+use Rattle.program.specs.inside.Table.{bitCount}
 use Rattle.listing.specs.declared.Listed.{Listed}
 use Rattle.listing.specs.declared.Listed.the-variants.{Count, Over}
 use Rattle.argument.specs.List.{argumentList}
-use Rattle.listing.specs.Listing.{listed, withList}
-use Rattle.argument.specs.Closures.{Filled, Room}
-use Rattle.tree.specs.Tables.{Columns}
+use Rattle.listing.specs.inside.Listing.{listed, withList}
+use Rattle.argument.specs.inside.Closures.{Filled, Room}
+use Rattle.tree.specs.inside.Tables.{Columns}
 use Rattle.answer.specs.declared.Answer.{Answer}
 use Rattle.answer.specs.declared.Answer.the-variants.{Refused}
 use Rattle.answer.specs.Answer.{answer}
-use Rattle.decision.specs.Steps.{Held, Listing, Decided, settled, Settled}
+use Rattle.decision.specs.inside.Steps.{Held, Listing, Decided, settled, Settled}
 
 -- ---- what the list's result says
 

@@ -1,10 +1,10 @@
 // From the argument list to the answer: the forest in the four tables, then its outcome.
-ghost use Rattle.program.specs.Table.{bitCount};
-ghost use Rattle.argument.specs.Closures.{Room};
-ghost use Rattle.tree.specs.Tables.{columns};
-ghost use Rattle.tree.specs.Roots.{ForestBuilt};
+ghost use Rattle.program.specs.inside.Table.{bitCount};
+ghost use Rattle.argument.specs.inside.Closures.{Room};
+ghost use Rattle.tree.specs.inside.Tables.{columns};
+ghost use Rattle.tree.specs.inside.Roots.{ForestBuilt};
 ghost use Rattle.answer.specs.Answer.{tests};
-ghost use Rattle.decision.specs.Steps.{Held, Asked, Listing, Decidable, Decided, Settles};
+ghost use Rattle.decision.specs.inside.Steps.{Held, Asked, Listing, Decidable, Decided, Settles};
 use crate::occurrence::occurs;
 use answer::Answer;
 use forest::roots::Grown;

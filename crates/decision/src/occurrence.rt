@@ -2,9 +2,9 @@
 ghost use mathlib.Core.Path.{_≡_};
 ghost use Prim.Native.Nat.{ℕ, _<_};
 ghost use Rattle.program.specs.Program.{Rule, Program};
-ghost use Rattle.program.specs.Table.{Row, Holds, Shaped};
+ghost use Rattle.program.specs.inside.Table.{Row, Holds, Shaped};
 ghost use Rattle.answer.specs.Answer.{occurs as «occursIn»};
-ghost use Rattle.decision.specs.Steps.{standsIn};
+ghost use Rattle.decision.specs.inside.Steps.{standsIn};
 use program::RuleTable;
 
 // In some rule.

@@ -1,9 +1,9 @@
 // The answer with a closure table of its own, in one of three sizes: a program with few defeasible rules neither clears nor
 // reserves a megabyte.
 ghost use Prim.Native.Nat.{_≤_};
-ghost use Rattle.program.specs.Table.{bitCount};
-ghost use Rattle.tree.specs.Tables.{columns};
-ghost use Rattle.decision.specs.Steps.{Asked, Settles};
+ghost use Rattle.program.specs.inside.Table.{bitCount};
+ghost use Rattle.tree.specs.inside.Tables.{columns};
+ghost use Rattle.decision.specs.inside.Steps.{Asked, Settles};
 use crate::answering::settle;
 use answer::Answer;
 use program::RuleTable;

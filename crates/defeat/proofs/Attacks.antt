@@ -26,15 +26,15 @@ use Rattle.derivation.proofs.Contradictions.{excludes-sym, excludes-derived}
 use Rattle.derivation.proofs.Choices.{Π-with-mono}
 use Rattle.argument.specs.Argument.{Subset, Argument, SubArgument, maskOf, literalOf}
 use Rattle.argument.specs.List.{argumentList}
-use Rattle.argument.specs.Fresh.{maskClosure}
-use Rattle.argument.specs.Closures.{closureAt}
+use Rattle.argument.specs.inside.Fresh.{maskClosure}
+use Rattle.argument.specs.inside.Closures.{closureAt}
 use Rattle.argument.proofs.Minimal.{argument-derives, argument-coherent, argument-mask-below}
 use Rattle.argument.proofs.SubArguments.{argument-derived, sub-argument-literal, literal-sub-argument}
 use Rattle.argument.proofs.Lists.{list-sound, list-complete, list-ascending}
 use Rattle.defeat.specs.Tests.{kind}
 use Rattle.defeat.specs.OfProgram.{testsOf}
-use Rattle.defeat.specs.Exclusions.{excludedBy, Ready}
-use Rattle.defeat.specs.Steps.{attacksBy, attackedBy, kindAmong}
+use Rattle.defeat.specs.inside.Exclusions.{excludedBy, Ready}
+use Rattle.defeat.specs.inside.Steps.{attacksBy, attackedBy, kindAmong}
 use Rattle.defeat.proofs.Weighing.{any-same, any-none, among-none, among-same, kind-among}
 
 -- ---- arguments that do not exclude each other

@@ -1,4 +1,4 @@
--- A defeater's kind as document 01's number: 1 proper, 2 blocking, and no other but 0 for none. Assumes nothing.
+-- A defeater's kind as document 01's number: 1 proper, 2 blocking, and no other but 0 for none.
 use mathlib.Core.Path.{_≡_, refl}
 use mathlib.Core.Bool.{Bool, true, false, not, _&&_}
 use mathlib.Core.Logic.{_⊎_, inl, inr, _↔_, _≢_}

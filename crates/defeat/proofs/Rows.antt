@@ -1,5 +1,5 @@
 -- The exclusion table: two literals against each other, then the loops that make it, a law for each turn and for each way
--- out, over plain numbers. Assumes nothing.
+-- out, over plain numbers.
 use mathlib.Core.Path.{_≡_, refl, sym, ap, ap₂, _∙_, subst}
 use mathlib.Core.Bool.{Bool, true, false, _&&_, false≢true}
 use mathlib.Core.List.{List, [], _∷_, List·Memᴰ, List·Memᴰ·not-nil, List·Memᴰ·cases-cons}
@@ -10,16 +10,16 @@ use native.Mathlib.Omega.{arith}
 use lib.ListN.{length, getD, set, take, length-set}
 use borrow.Author.Count.{below-more}
 use Rattle.literals.specs.Sets.{has, insert, union, within, clash}
-use Rattle.literals.specs.Words.{joined}
+use Rattle.literals.specs.inside.Words.{joined}
 use Rattle.literals.proofs.Tests.{same-test, and-left}
 use Rattle.literals.proofs.Members.{has-empty, has-bound, has-insert-same, insert-cases, insert-keeps}
 use Rattle.literals.proofs.Within.{within-each, within-empty, within-trans, within-union-left, within-union-right, union-within}
 use Rattle.literals.proofs.Within.{within-insert, insert-within}
 use Rattle.literals.proofs.Clashes.{clash-mono}
 use Rattle.program.specs.Program.{Rule, Program, Π-mask, Π}
-use Rattle.program.specs.Table.{Holds}
+use Rattle.program.specs.inside.Table.{Holds}
 use Rattle.derivation.specs.Closure.{closure, excludes}
-use Rattle.derivation.specs.Parts.{StrictOf, Parted}
+use Rattle.derivation.specs.inside.Parts.{StrictOf, Parted}
 use Rattle.derivation.proofs.Closures.{closure-contains, closure-closed, closure-mono, closure-cut, closure-idempotent}
 use Rattle.derivation.proofs.Rounds.{Closed}
 use Rattle.derivation.proofs.Parts.{parted-closed, parted-union}
@@ -27,8 +27,8 @@ use Rattle.derivation.proofs.Choices.{Π-mask-empty}
 use Rattle.derivation.proofs.Contradictions.{excludes-sym}
 use Rattle.argument.specs.Argument.{literalOf}
 use Rattle.argument.proofs.Entries.{stored, stored-same, stored-other}
-use Rattle.defeat.specs.Exclusions.{excludedBy, Excluded, Conclusions}
-use Rattle.defeat.specs.Steps.{RowOf, Underway}
+use Rattle.defeat.specs.inside.Exclusions.{excludedBy, Excluded, Conclusions}
+use Rattle.defeat.specs.inside.Steps.{RowOf, Underway}
 
 -- ---- two literals
 

@@ -1,5 +1,4 @@
 -- The kind by those of a list that are attacked, a law for each turn of the search and for each way out, over any tests.
--- Assumes nothing.
 use mathlib.Core.Path.{_≡_, refl, sym, ap, ap₂, _∙_}
 use mathlib.Core.Bool.{Bool, true, false, not, _&&_, _||_, false≢true}
 use mathlib.Core.List.{List, [], _∷_, List·Memᴰ, List·Memᴰ·head, List·Memᴰ·tail}
@@ -8,7 +7,7 @@ use Rattle.lists.specs.Lists.{any}
 use Rattle.lists.proofs.Lists.{T-true, any-intro, any-filter}
 use Rattle.literals.proofs.Tests.{true-T, not-true-false}
 use Rattle.defeat.specs.Tests.{Tests, attacked, proper, neither, kind, kindOf}
-use Rattle.defeat.specs.Steps.{kindAmong}
+use Rattle.defeat.specs.inside.Steps.{kindAmong}
 
 -- ---- searches in a list
 

@@ -3,5 +3,4 @@ pub mod Frame
 pub mod Defeat
 pub mod Tests
 pub mod OfProgram
-pub mod Exclusions
-pub mod Steps
+pub mod inside

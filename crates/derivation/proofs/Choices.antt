@@ -1,4 +1,4 @@
--- Π with some defeasible rules: which rules are chosen, and the bits by which they are. Assumes nothing.
+-- Π with some defeasible rules: which rules are chosen, and the bits by which they are.
 use mathlib.Core.Path.{_≡_, refl, sym, ap, ap₂, _∙_}
 use mathlib.Core.Bool.{Bool, true, false, not, _||_, false≢true}
 use mathlib.Core.List.{List, [], _∷_, List·Memᴰ, List·Memᴰ·head, List·Memᴰ·tail, List·Memᴰ·not-nil, List·Memᴰ·cases-cons, Memᴰ·cast}

@@ -1,5 +1,4 @@
 -- The closure is the least set that has the given literals and is closed under the rules; what follows from that alone.
--- Assumes nothing.
 use mathlib.Core.Path.{_≡_, sym, _∙_}
 use mathlib.Core.Bool.{true, false, false≢true}
 use mathlib.Core.List.{List, List·Memᴰ}

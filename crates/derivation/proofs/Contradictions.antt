@@ -1,4 +1,4 @@
--- The tests for contradiction and exclusion say what the definition says. Assumes nothing.
+-- The tests for contradiction and exclusion say what the definition says.
 use mathlib.Core.Path.{_≡_, sym, ap, _∙_, subst}
 use mathlib.Core.Bool.{true, false}
 use mathlib.Core.List.{List, [], _∷_, _++_, map, List·Memᴰ, List·Memᴰ·not-nil, List·Memᴰ·cases-cons}

@@ -1,5 +1,4 @@
 -- The search for the joint rules and for one that adds, a lemma for each turn and for each way out, over plain numbers.
--- Assumes nothing.
 use mathlib.Core.Path.{_≡_, refl, sym, ap, ap₂, _∙_, subst}
 use mathlib.Core.Bool.{Bool, true, false, not, _&&_, false≢true}
 use mathlib.Core.List.{List}
@@ -12,17 +11,17 @@ use lib.Dec.{eqb, ltb}
 use lib.ListN.{length}
 use borrow.Author.Tests.{eq-eqb, ne-eqb, ltb-false}
 use Rattle.literals.specs.Sets.{has, insert, insertAll, hasAll, minus, union, within}
-use Rattle.literals.specs.Words.{joined}
+use Rattle.literals.specs.inside.Words.{joined}
 use Rattle.literals.proofs.Tests.{and-intro, not-true-false}
 use Rattle.literals.proofs.Members.{has-empty, has-bound, has-insert-same, has-insert-other, insert-cases, has-minus-power}
 use Rattle.literals.proofs.Lists.{hasAll-within}
 use Rattle.literals.proofs.Within.{within-refl, within-trans, minus-within}
 use Rattle.literals.proofs.Words.{has-joined-low, has-joined-high}
 use Rattle.program.specs.Program.{Kind, strict, defeasible, Rule, Program, isDefeasible, bitOf, ruleAt, Π-mask, Π}
-use Rattle.program.specs.Table.{headAt, bodyAt, needAt, needOf, ruleCount, Row, Holds}
+use Rattle.program.specs.inside.Table.{headAt, bodyAt, needAt, needOf, ruleCount, Row, Holds}
 use Rattle.derivation.specs.Closure.{closure}
-use Rattle.derivation.specs.Steps.{joinsAt, addsAt}
-use Rattle.derivation.specs.Parts.{RulesOf, Unjoined, Solo, StrictOf, Parted}
+use Rattle.derivation.specs.inside.Steps.{joinsAt, addsAt}
+use Rattle.derivation.specs.inside.Parts.{RulesOf, Unjoined, Solo, StrictOf, Parted}
 use Rattle.derivation.proofs.Choices.{Π-mask-empty}
 use Rattle.derivation.proofs.Parts.{solo-few, settle-rest, settle-done}
 

@@ -1,4 +1,4 @@
--- Unions of sets that are closed under Π: which rules may add to them, and when none does. Assumes nothing.
+-- Unions of sets that are closed under Π: which rules may add to them, and when none does.
 use mathlib.Core.Path.{_≡_, refl, sym, ap, _∙_}
 use mathlib.Core.Bool.{true, false}
 use mathlib.Core.List.{List}
@@ -18,7 +18,7 @@ use Rattle.literals.proofs.Within.{within-each, each-within, within-antisym, wi
 use Rattle.literals.proofs.Within.{within-union-right, union-within, ones-more}
 use Rattle.program.specs.Program.{Rule, isDefeasible, ruleAt, Π}
 use Rattle.derivation.specs.Closure.{closure}
-use Rattle.derivation.specs.Parts.{Unjoined, Solo, StrictOf, Parted}
+use Rattle.derivation.specs.inside.Parts.{Unjoined, Solo, StrictOf, Parted}
 use Rattle.derivation.proofs.Rounds.{Closed}
 use Rattle.derivation.proofs.Closures.{closure-contains, closure-closed, closure-least, closure-mono, closure-cut}
 use Rattle.derivation.proofs.Choices.{Π-has, Π-strict, Π-with-rules}

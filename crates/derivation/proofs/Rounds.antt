@@ -1,4 +1,4 @@
--- One round over the rules: what it adds, and how often it can add something. Assumes nothing.
+-- One round over the rules: what it adds, and how often it can add something.
 use mathlib.Core.Path.{_≡_, refl, sym, ap, _∙_, subst}
 use mathlib.Core.Bool.{Bool, true, false, false≢true}
 use mathlib.Core.List.{List, [], _∷_, List·Memᴰ, List·Memᴰ·head, List·Memᴰ·tail, List·Memᴰ·not-nil, List·Memᴰ·cases-cons}

@@ -1,4 +1,4 @@
--- The rule table against the rules that it holds. Assumes nothing.
+-- The rule table against the rules that it holds.
 use mathlib.Core.Path.{_≡_, refl, sym, ap, _∙_, subst}
 use mathlib.Core.Bool.{true, not, _||_}
 use mathlib.Core.List.{List, [], _∷_, List·Memᴰ, List·Memᴰ·not-nil, List·Memᴰ·cases-cons}
@@ -14,7 +14,7 @@ use Rattle.literals.proofs.Members.{has-power, has-bit}
 use Rattle.literals.proofs.Within.{within-each, each-within, within-empty}
 use Rattle.program.specs.Program.{Kind, strict, defeasible, Rule, Program, isDefeasible, ruleAt}
 use Rattle.program.specs.Limits.{Limits}
-use Rattle.program.specs.Table.{headAt, ruleCount, needOf, Holds, Shaped}
+use Rattle.program.specs.inside.Table.{headAt, ruleCount, needOf, Holds, Shaped}
 use Rattle.derivation.specs.Derivation.{HeadsBelow}
 use Rattle.derivation.proofs.Choices.{Π-with-rules, Π-with-at}
 

@@ -1,4 +1,4 @@
--- The loops of the code, a lemma for each turn and for each way out, over plain numbers. Assumes nothing.
+-- The loops of the code, a lemma for each turn and for each way out, over plain numbers.
 use mathlib.Core.Path.{_≡_, refl, sym, ap, ap₂, _∙_}
 use mathlib.Core.Bool.{Bool, true, false, not, _||_}
 use mathlib.Core.List.{List, [], _∷_}
@@ -13,9 +13,9 @@ use Rattle.lists.specs.Lists.{keep}
 use Rattle.literals.specs.Sets.{has, choose, insert, hasAll, within, clash}
 use Rattle.literals.proofs.Lists.{hasAll-within}
 use Rattle.program.specs.Program.{Rule, fact, isDefeasible, nextBit, defeasiblesFrom, bitOf, ruleAt, chosenFrom, Π-mask}
-use Rattle.program.specs.Table.{headAt, bodyAt, needAt, Row}
+use Rattle.program.specs.inside.Table.{headAt, bodyAt, needAt, Row}
 use Rattle.derivation.specs.Closure.{fire, round, rounds, closure, excludes}
-use Rattle.derivation.specs.Steps.{fireChosen}
+use Rattle.derivation.specs.inside.Steps.{fireChosen}
 use Rattle.derivation.proofs.Rounds.{fire-ready, fire-waits, missing-le-length, rounds-stop, rounds-next}
 use Rattle.derivation.proofs.Closures.{closure-rounds}
 use Rattle.derivation.proofs.Choices.{Π-mask-empty}

@@ -1,5 +1,5 @@
 -- The literals that are derived, computed: all rules in turn, again and again until a round adds nothing. Each function
--- computes, so that small programs are evaluated in a proof. Assumes nothing.
+-- computes, so that small programs are evaluated in a proof.
 use mathlib.Core.Bool.{Bool, true, false}
 use mathlib.Core.List.{List, [], _∷_}
 use Prim.Native.Nat.{ℕ, zero, suc}

@@ -1,5 +1,5 @@
 -- Derivation (document 01, "Derivation and arguments"), of any list of rules: Π with a mask m is `Π-mask m rules`, and Π
--- with two facts more is `fact a ∷ fact b ∷ Π rules`. Assumes nothing.
+-- with two facts more is `fact a ∷ fact b ∷ Π rules`.
 use mathlib.Core.List.{List, [], _∷_, List·Memᴰ}
 use Prim.Native.Nat.{ℕ, _+_, _-_, _*_, _/_, _%_, _<_}
 use Rattle.program.specs.Program.{Rule}

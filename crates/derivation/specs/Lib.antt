@@ -1,5 +1,4 @@
 -- What is derived: the definition by chains, and the closure that computes it.
 pub mod Derivation
 pub mod Closure
-pub mod Steps
-pub mod Parts
+pub mod inside

@@ -1,4 +1,4 @@
--- What is returned of two calls on one image, from demand 3. Assumes nothing.
+-- What is returned of two calls on one image, from demand 3.
 use mathlib.Core.Path.{_≡_, refl, sym, _∙_, ap, subst}
 use mathlib.Core.Bool.{Bool, true, false, _&&_}
 use mathlib.Core.List.{List}

@@ -1,4 +1,4 @@
--- What an accepted image is: each part and each pair is sound, and its program is within the limits. Assumes nothing.
+-- What an accepted image is: each part and each pair is sound, and its program is within the limits.
 use mathlib.Core.Path.{_≡_, refl, sym, ap, subst, _∙_}
 use mathlib.Core.Bool.{Bool, true, false, not, _&&_, _||_}
 use mathlib.Core.List.{List, [], _∷_, List·Memᴰ, List·Memᴰ·cases-cons, List·Memᴰ·not-nil}
@@ -14,14 +14,14 @@ use borrow.Author.Tests.{ltb-true, ltb-false, lt-ltb, leb-false, eqb-true, eqb-f
 use Rattle.literals.proofs.Tests.{and-intro, and-left, and-right}
 use Rattle.program.specs.Program.{Kind, strict, defeasible, Rule, Program, nextBit, defeasibles, defeasiblesFrom, bitOf, ruleAt}
 use Rattle.program.specs.Limits.{DefeasibleAt, PairOf, Limits}
-use Rattle.program.specs.Table.{Holds}
+use Rattle.program.specs.inside.Table.{Holds}
 use Rattle.program.proofs.Fillings.{bit-of-next}
 use Rattle.layout.specs.declared.Verdict.{Verdict}
 use Rattle.layout.specs.declared.Verdict.the-variants.{Accepted, Refused}
 use Rattle.layout.specs.Layout.{byteAt, atomsOf, rulesOf, pairsOf, sizeOf, partOf, kindByte, headByte, bodyBytes, firstOf, secondOf}
 use Rattle.layout.specs.Causes.{refuse, andThen, allBelow, ascending, badSize, badKind, badLiteral, badBody, badEmpty, badSeventeenth, badRepeat, badLength, badCounts, badDirectory, badPairs, badPair, notDefeasible, partVerdict, ruleVerdict, countKind, rulesVerdict, pairVerdict, pairsVerdict, verdict}
 use Rattle.layout.specs.Reading.{ruleIn, rulesIn, pairsIn, programIn}
-use Rattle.layout.specs.Steps.{Parts, Loaded}
+use Rattle.layout.specs.inside.Steps.{Parts, Loaded}
 use Rattle.layout.proofs.Bytes.{below-here, below-after}
 use Rattle.layout.proofs.Directory.{neither-left, neither-right, directory-parts}
 use Rattle.image.proofs.EachRule.{rules-next, kind-counted, kind-defeasible, kind-strict}

@@ -1,4 +1,4 @@
--- Filling in the masks of beaten rules, for an accepted image. Assumes nothing.
+-- Filling in the masks of beaten rules, for an accepted image.
 use mathlib.Core.Path.{_≡_, refl, sym, ap, subst, _∙_}
 use mathlib.Core.Bool.{Bool, true, false}
 use mathlib.Core.List.{List}
@@ -8,15 +8,15 @@ use lib.ListN.{length}
 use lib.Dec.{eqb}
 use Rattle.program.specs.Program.{Kind, strict, defeasible, Rule, Program, isDefeasible, defeasibles, bitOf, ruleAt, beaten, beatenFrom}
 use Rattle.program.specs.Limits.{DefeasibleAt}
-use Rattle.program.specs.Table.{needAt, needOf, Holds}
-use Rattle.program.specs.Store.{withBeaten, withCounts}
-use Rattle.program.specs.Filling.{RowsTo, BeatenTo}
+use Rattle.program.specs.inside.Table.{needAt, needOf, Holds}
+use Rattle.program.specs.inside.Store.{withBeaten, withCounts}
+use Rattle.program.specs.inside.Filling.{RowsTo, BeatenTo}
 use Rattle.program.proofs.Fillings.{beaten-skip, beaten-more, counts-hold}
 use Rattle.layout.specs.declared.Verdict.the-variants.{Accepted}
 use Rattle.layout.specs.Layout.{byteAt, atomsOf, rulesOf, pairsOf, partOf, kindByte, secondOf}
 use Rattle.layout.specs.Causes.{verdict}
 use Rattle.layout.specs.Reading.{ruleIn, rulesIn, pairsIn, programIn}
-use Rattle.layout.specs.Steps.{Named, BitsAt}
+use Rattle.layout.specs.inside.Steps.{Named, BitsAt}
 use Rattle.image.proofs.EachRule.{kind-defeasible, kind-strict}
 use Rattle.image.proofs.Accepted.{Sound, accepted-sound, Fillable, accepted-fillable, pair-named}
 

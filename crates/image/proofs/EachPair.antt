@@ -1,4 +1,4 @@
--- Pair by pair: what the tests on one pair say, and one pair's verdict of all from it on. Assumes nothing.
+-- Pair by pair: what the tests on one pair say, and one pair's verdict of all from it on.
 use mathlib.Core.Path.{_≡_, refl, sym, ap, _∙_}
 use mathlib.Core.Bool.{Bool, true, false, not, _||_}
 use mathlib.Core.List.{List}
@@ -13,7 +13,7 @@ use Rattle.layout.specs.declared.Verdict.{Verdict}
 use Rattle.layout.specs.declared.Verdict.the-variants.{Accepted, Refused}
 use Rattle.layout.specs.Layout.{rulesOf, pairsOf, offsetOf, sizeOf, partOf, kindByte, firstOf, secondOf}
 use Rattle.layout.specs.Causes.{refuse, andThen, notDefeasible, badPairs, badPair, pairCode, badOrder, pairVerdict, pairsVerdict}
-use Rattle.layout.specs.Steps.{Parts}
+use Rattle.layout.specs.inside.Steps.{Parts}
 
 module _ (s : List ℕ) (rules : ℕ) (is : rules ≡ rulesOf s) (a : ℕ) where
   pub absent-not : rules ≤ a → true ≡ notDefeasible s a

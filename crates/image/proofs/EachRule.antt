@@ -1,4 +1,4 @@
--- Rule by rule: what one rule's verdict says of all from it on. Assumes nothing.
+-- Rule by rule: what one rule's verdict says of all from it on.
 use mathlib.Core.Path.{_≡_, refl, sym, ap, ap₂, _∙_}
 use mathlib.Core.Bool.{Bool, true, false}
 use mathlib.Core.List.{List}

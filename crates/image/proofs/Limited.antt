@@ -1,5 +1,5 @@
 -- The limits the other way: an image whose program is within them has no literal and no pair that is refused. With
--- `accepted-limits` they ask neither more nor less of literals and pairs than causes 6 and 12 do. Assumes nothing.
+-- `accepted-limits` they ask neither more nor less of literals and pairs than causes 6 and 12 do.
 use mathlib.Core.Path.{_≡_, refl, sym, ap, subst, _∙_}
 use mathlib.Core.Bool.{Bool, true, false, not, _||_}
 use mathlib.Core.List.{List, [], _∷_, List·Memᴰ, List·Memᴰ·head, List·Memᴰ·tail}

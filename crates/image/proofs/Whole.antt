@@ -1,4 +1,4 @@
--- The whole verdict, from the header on. Assumes nothing.
+-- The whole verdict, from the header on.
 use mathlib.Core.Path.{_≡_, refl, sym, ap, _∙_}
 use mathlib.Core.Bool.{Bool, true, false, not, _||_}
 use mathlib.Core.List.{List}
@@ -14,7 +14,7 @@ use Rattle.layout.specs.declared.header.Header.{Header}
 use Rattle.layout.specs.declared.header.Header.the-variants as header
 use Rattle.layout.specs.Layout.{numberAt, atomsOf, rulesOf, pairsOf}
 use Rattle.layout.specs.Causes.{refuse, andThen, badLength, badCounts, badDirectory, rulesVerdict, badPairs, pairsVerdict, verdict}
-use Rattle.layout.specs.Steps.{cursorAt, headerBy, headerOf}
+use Rattle.layout.specs.inside.Steps.{cursorAt, headerBy, headerOf}
 use Rattle.layout.proofs.Directory.{neither-left, neither-right}
 
 -- what the header says where it is read

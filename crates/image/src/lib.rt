@@ -2,7 +2,7 @@
 ghost use mathlib.Core.Path.{_≡_};
 ghost use Rattle.layout.specs.Causes.{verdict};
 ghost use Rattle.layout.specs.Reading.{programIn};
-ghost use Rattle.layout.specs.Steps.{Loaded};
+ghost use Rattle.layout.specs.inside.Steps.{Loaded};
 
 mod fill;
 mod pairs;

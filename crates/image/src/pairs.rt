@@ -4,7 +4,7 @@ ghost use Prim.Native.Nat.{_+_, _*_, _≤_, _<_};
 ghost use lib.ListN.{length, getD};
 ghost use Rattle.layout.specs.Layout.{rulesOf, pairsOf, partOf};
 ghost use Rattle.layout.specs.Causes.{refuse, andThen, notDefeasible, badPairs, pairVerdict, pairsVerdict};
-ghost use Rattle.layout.specs.Steps.{Parts};
+ghost use Rattle.layout.specs.inside.Steps.{Parts};
 use layout::Verdict;
 use layout::cursor;
 use layout::part;

@@ -3,7 +3,7 @@ ghost use mathlib.Core.Path.{_≡_};
 ghost use Prim.Native.Nat.{_≤_, _<_};
 ghost use Rattle.layout.specs.Layout.{atomsOf};
 ghost use Rattle.layout.specs.Causes.{standsIn, ruleVerdict, rulesVerdict};
-ghost use Rattle.layout.specs.Steps.{Parts, Located};
+ghost use Rattle.layout.specs.inside.Steps.{Parts, Located};
 use layout::Verdict;
 use layout::cursor;
 use layout::cursor::Cursor;

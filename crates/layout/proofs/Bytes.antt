@@ -1,4 +1,4 @@
--- The tests on a part's bytes, from byte k on: where they end, go on and stop. Assumes nothing.
+-- The tests on a part's bytes, from byte k on: where they end, go on and stop.
 use mathlib.Core.Path.{_≡_, refl, sym, ap, _∙_}
 use mathlib.Core.Bool.{Bool, true, false, _&&_}
 use mathlib.Core.List.{List, [], _∷_}

@@ -1,4 +1,4 @@
--- What a cursor's step says of the image, for each of its answers. Assumes nothing.
+-- What a cursor's step says of the image, for each of its answers.
 use mathlib.Core.Path.{_≡_, refl, sym, ap, _∙_}
 use mathlib.Core.Bool.{Bool, true, false}
 use mathlib.Core.List.{List}
@@ -14,7 +14,7 @@ use Rattle.layout.specs.declared.cursor.Number.the-variants as number
 use Rattle.layout.specs.declared.cursor.Entry.{Entry}
 use Rattle.layout.specs.declared.cursor.Entry.the-variants as entry
 use Rattle.layout.specs.Layout.{numberAt}
-use Rattle.layout.specs.Steps.{cursorAt, numberFrom, entryFrom}
+use Rattle.layout.specs.inside.Steps.{cursorAt, numberFrom, entryFrom}
 
 module _ (s : List ℕ) (at : ℕ) where
   pub number-past : length s < at + 2 → number.Past ≡ numberFrom s at

@@ -1,4 +1,4 @@
--- The header and the directory: what their tests say. Assumes nothing.
+-- The header and the directory: what their tests say.
 use mathlib.Core.Path.{_≡_, refl, sym, ap, _∙_}
 use mathlib.Core.Bool.{Bool, true, false, not, _&&_, _||_}
 use mathlib.Core.List.{List}
@@ -19,7 +19,7 @@ use Rattle.layout.specs.Layout.{numberAt, atomsOf, rulesOf, pairsOf, off
 use Rattle.layout.specs.Causes.{refuse, andThen, badLength, badCounts, partsFollow, badDirectory}
 use Rattle.layout.specs.declared.cursor.Cursor.{Cursor}
 use Rattle.literals.specs.Sets.{choose}
-use Rattle.layout.specs.Steps.{cursorAt, headerWith, headerBy, headerOf, Parts}
+use Rattle.layout.specs.inside.Steps.{cursorAt, headerWith, headerBy, headerOf, Parts}
 
 -- ---- neither of two tests
 pub neither-left : (a b : Bool) → (a || b) ≡ false → a ≡ false

@@ -1,4 +1,4 @@
--- Where the parts of an image lie, and what walking over them says. Assumes nothing.
+-- Where the parts of an image lie, and what walking over them says.
 use mathlib.Core.Path.{_≡_, refl, sym, ap, _∙_}
 use mathlib.Core.Bool.{Bool, true, false, not, _&&_, _||_}
 use mathlib.Core.List.{List}
@@ -11,7 +11,7 @@ use Rattle.layout.specs.declared.cursor.Entry.{Entry}
 use Rattle.layout.specs.declared.cursor.Entry.the-variants as entry
 use Rattle.layout.specs.Layout.{numberAt, offsetOf, sizeOf, partOf}
 use Rattle.layout.specs.Causes.{sameBytes, standsIn}
-use Rattle.layout.specs.Steps.{entryFrom, Parts, Located}
+use Rattle.layout.specs.inside.Steps.{entryFrom, Parts, Located}
 use Rattle.layout.proofs.Cursors.{entry-ended, entry-is}
 
 pub parts-fewer : (s : List ℕ) (n j : ℕ) → Parts s n → j ≤ n → Parts s j

@@ -1,4 +1,4 @@
--- A verdict by its tests: once the tests are known, the first cause that applies is computed. Assumes nothing.
+-- A verdict by its tests: once the tests are known, the first cause that applies is computed.
 use mathlib.Core.Path.{_≡_, refl, sym, ap, _∙_}
 use mathlib.Core.Bool.{Bool, true, false, not, _&&_, _||_}
 use mathlib.Core.List.{List}

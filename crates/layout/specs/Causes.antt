@@ -1,5 +1,5 @@
 -- The causes 1 to 13 that refuse an image (document 01, "Causes for turning an order away"), each with its number and its
--- place, and the order in which they are looked for. Assumes nothing.
+-- place, and the order in which they are looked for.
 use mathlib.Core.Bool.{Bool, true, false, not, _&&_, _||_}
 use mathlib.Core.List.{List, [], _∷_}
 use Prim.Native.Nat.{ℕ, zero, suc, _+_, _*_}

@@ -1,5 +1,5 @@
 -- What stands where in an image (document 01, "The program image"). An image is the list of its bytes; a place past the
--- end reads as 0, so that every definition is total. Assumes nothing.
+-- end reads as 0, so that every definition is total.
 use mathlib.Core.List.{List}
 use Prim.Native.Nat.{ℕ, _+_, _*_}
 use lib.ListN.{getD, take, drop}

@@ -1,7 +1,7 @@
 // The image cursor: each step hands back what it read with the next cursor, or that the image ends first.
 ghost use mathlib.Core.Path.{_≡_};
 ghost use Prim.Native.Nat.{_+_, _*_, _<_};
-ghost use Rattle.layout.specs.Steps.{numberFrom, entryFrom, Parts, Located};
+ghost use Rattle.layout.specs.inside.Steps.{numberFrom, entryFrom, Parts, Located};
 
 // A position in the image.
 pub struct Cursor {

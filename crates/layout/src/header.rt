@@ -5,7 +5,7 @@ ghost use Prim.Native.Nat.{_+_, _*_, _≤_, _<_};
 ghost use lib.ListN.{length};
 ghost use Rattle.layout.specs.Layout.{rulesOf};
 ghost use Rattle.layout.specs.Causes.{partsFollow, badDirectory};
-ghost use Rattle.layout.specs.Steps.{headerWith, headerOf};
+ghost use Rattle.layout.specs.inside.Steps.{headerWith, headerOf};
 use crate::cursor::Cursor;
 use crate::cursor::Entry;
 use crate::cursor::Number;

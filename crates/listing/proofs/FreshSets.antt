@@ -1,4 +1,4 @@
--- The set `fresh` has exactly the literals of the arguments with its mask. Assumes nothing.
+-- The set `fresh` has exactly the literals of the arguments with its mask.
 use mathlib.Core.Path.{_≡_, refl, sym, ap, _∙_}
 use mathlib.Core.Bool.{Bool, true, false, not, _&&_, _||_}
 use mathlib.Core.List.{List}
@@ -10,7 +10,7 @@ use Rattle.derivation.specs.Derivation.{HeadsBelow}
 use Rattle.derivation.specs.Closure.{derives, contradictory}
 use Rattle.argument.specs.Argument.{Argument}
 use Rattle.argument.specs.List.{derivesWithout, noneWithout, isArgument}
-use Rattle.argument.specs.Fresh.{maskClosure, unionOver, derivedWithout, freshBy, fresh}
+use Rattle.argument.specs.inside.Fresh.{maskClosure, unionOver, derivedWithout, freshBy, fresh}
 use Rattle.argument.proofs.Minimal.{isArgument-sound, isArgument-complete}
 
 module _ (rules : List Rule) (m h : ℕ) where

@@ -1,5 +1,5 @@
 -- The loops that read the arguments off the closure table, a lemma for each turn and for each way out, over plain numbers
--- and lists. Assumes nothing.
+-- and lists.
 use mathlib.Core.Path.{_≡_, refl, sym, ap, ap₂, _∙_, subst}
 use mathlib.Core.Bool.{Bool, true, false}
 use mathlib.Core.List.{List, [], _∷_, _++_}
@@ -17,10 +17,10 @@ use Rattle.literals.specs.Sets.{has, choose, minus, union, within, clash}
 use Rattle.literals.proofs.Members.{has-bound, minus-less}
 use Rattle.literals.proofs.Within.{within-each, within-refl, within-trans, within-union-left, minus-within}
 use Rattle.listing.specs.declared.Listed.the-variants.{Count, Over}
-use Rattle.argument.specs.Fresh.{unionOver, derivedWithout}
+use Rattle.argument.specs.inside.Fresh.{unionOver, derivedWithout}
 use Rattle.argument.specs.List.{listBy}
-use Rattle.argument.specs.Closures.{closureAt}
-use Rattle.listing.specs.Listing.{freshIn, listIn, membersFrom, Written, listed, withList}
+use Rattle.argument.specs.inside.Closures.{closureAt}
+use Rattle.listing.specs.inside.Listing.{freshIn, listIn, membersFrom, Written, listed, withList}
 use Rattle.listing.proofs.Unions.{union-assoc, unionOver-empty, unionOver-first}
 use Rattle.listing.proofs.Picks.{members-length, listed-next, listed-end, sets-append}
 use Rattle.listing.proofs.Readings.{fresh-coherent}

@@ -1,5 +1,4 @@
--- Lists of the numbers that pass a test: when two are the same, how long they are, and how they are taken apart. Assumes
--- nothing.
+-- Lists of the numbers that pass a test: when two are the same, how long they are, and how they are taken apart.
 use mathlib.Core.Path.{_≡_, refl, sym, ap, ap₂, _∙_}
 use mathlib.Core.Bool.{Bool, true, false, not, _&&_}
 use mathlib.Core.List.{List, [], _∷_, _++_}
@@ -15,12 +14,12 @@ use lib.Seq.{sets}
 use borrow.Author.Tests.{eq-eqb, ne-eqb}
 use Rattle.lists.specs.Lists.{keep}
 use Rattle.literals.specs.Sets.{has, bit, minus, Lowest}
-use Rattle.literals.specs.Words.{joined}
+use Rattle.literals.specs.inside.Words.{joined}
 use Rattle.literals.proofs.Bits.{bit-first, bit-below}
 use Rattle.literals.proofs.Members.{has-half, has-empty, has-minus-power}
 use Rattle.literals.proofs.Words.{has-joined-low, has-joined-high}
 use Rattle.argument.specs.List.{picked, listBy}
-use Rattle.listing.specs.Listing.{membersFrom}
+use Rattle.listing.specs.inside.Listing.{membersFrom}
 
 pub picked-ext : (f g : ℕ → Bool) (base k n : ℕ) → ((j : ℕ) → k ≤ j → j < k + n → f j ≡ g j)
     → picked f base k n ≡ picked g base k n

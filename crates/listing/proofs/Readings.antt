@@ -1,4 +1,4 @@
--- What is read off a filled closure table: the sets of new literals, and so the argument list. Assumes nothing.
+-- What is read off a filled closure table: the sets of new literals, and so the argument list.
 use mathlib.Core.Path.{_≡_, refl, sym, ap, ap₂, _∙_}
 use mathlib.Core.Bool.{Bool, true, false, false≢true}
 use mathlib.Core.List.{List}
@@ -8,10 +8,10 @@ use Rattle.literals.specs.Sets.{has, choose, minus, clash}
 use Rattle.literals.proofs.Tests.{not-true-false}
 use Rattle.literals.proofs.Members.{minus-less}
 use Rattle.program.specs.Program.{Rule, defeasibles}
-use Rattle.argument.specs.Fresh.{maskClosure, derivedWithout, freshBy}
+use Rattle.argument.specs.inside.Fresh.{maskClosure, derivedWithout, freshBy}
 use Rattle.argument.specs.List.{isArgument, listBy, argumentList}
-use Rattle.argument.specs.Closures.{closureAt, Stands, Filled}
-use Rattle.listing.specs.Listing.{freshIn, listIn}
+use Rattle.argument.specs.inside.Closures.{closureAt, Stands, Filled}
+use Rattle.listing.specs.inside.Listing.{freshIn, listIn}
 use Rattle.argument.proofs.MaskClosures.{minus-subset, mask-contradictory-mono}
 use Rattle.listing.proofs.Unions.{unionOver-ext}
 use Rattle.listing.proofs.FreshSets.{fresh-isArgument}

@@ -1,4 +1,4 @@
--- Unions over the members of a set. Assumes nothing.
+-- Unions over the members of a set.
 use mathlib.Core.Path.{_≡_, refl, sym, ap, ap₂, _∙_}
 use mathlib.Core.Bool.{Bool, true, false, not, _||_, false≢true}
 use mathlib.Core.Logic.{_⊎_, inl, inr, ⊎-elim}
@@ -12,7 +12,7 @@ use Rattle.literals.specs.Sets.{has, choose, minus, union}
 use Rattle.literals.proofs.Tests.{or-left, or-right, or-cases, and-left, and-intro}
 use Rattle.literals.proofs.Members.{has-empty, has-ext, has-union, has-minus-power}
 use Rattle.literals.proofs.Within.{each-within, within-antisym}
-use Rattle.argument.specs.Fresh.{unionOver}
+use Rattle.argument.specs.inside.Fresh.{unionOver}
 
 pub union-assoc : (a b c : ℕ) → union (union a b) c ≡ union a (union b c)
 union-assoc a b c =

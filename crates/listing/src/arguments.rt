@@ -3,9 +3,9 @@ ghost use mathlib.Core.Path.{_≡_};
 ghost use Prim.Native.Nat.{_+_, _*_, _^_, _<_, _≤_};
 ghost use lib.ListN.{length};
 ghost use lib.Seq.{sets};
-ghost use Rattle.literals.specs.Words.{setOf};
-ghost use Rattle.argument.specs.Closures.{Room};
-ghost use Rattle.listing.specs.Listing.{freshIn, listIn, membersFrom, Written};
+ghost use Rattle.literals.specs.inside.Words.{setOf};
+ghost use Rattle.argument.specs.inside.Closures.{Room};
+ghost use Rattle.listing.specs.inside.Listing.{freshIn, listIn, membersFrom, Written};
 use literals::LiteralSet;
 use literals::masks;
 

@@ -3,10 +3,10 @@ ghost use mathlib.Core.Path.{_≡_};
 ghost use Prim.Native.Nat.{_^_};
 ghost use Rattle.program.specs.Program.{Program};
 ghost use Rattle.program.specs.Limits.{Limits};
-ghost use Rattle.program.specs.Table.{bitCount, Holds};
+ghost use Rattle.program.specs.inside.Table.{bitCount, Holds};
 ghost use Rattle.argument.specs.List.{argumentList};
-ghost use Rattle.argument.specs.Closures.{Filled, Numbered, Room};
-ghost use Rattle.listing.specs.Listing.{listed, withList};
+ghost use Rattle.argument.specs.inside.Closures.{Filled, Numbered, Room};
+ghost use Rattle.listing.specs.inside.Listing.{listed, withList};
 use argument::closures;
 use program::RuleTable;
 

@@ -1,4 +1,4 @@
--- Tests that decide statements: by connective, then by list function. Assumes nothing.
+-- Tests that decide statements: by connective, then by list function.
 use mathlib.Core.Path.{_≡_}
 use mathlib.Core.Bool.{Bool, true, false, not, _&&_, _||_}
 use mathlib.Core.List.{List, List·Memᴰ}

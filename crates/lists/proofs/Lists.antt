@@ -1,4 +1,4 @@
--- What a passed test says, and what makes it pass: by connective, then by list function. Assumes nothing.
+-- What a passed test says, and what makes it pass: by connective, then by list function.
 use mathlib.Core.Path.{_≡_, refl, ap, sym, subst, _∙_}
 use mathlib.Core.Bool.{Bool, true, false, _&&_, _||_}
 use mathlib.Core.List.{List, [], _∷_, _++_, map, List·Memᴰ, List·Memᴰ·head, List·Memᴰ·tail, List·Memᴰ·not-nil, Memᴰ·cast}

@@ -1,4 +1,4 @@
--- A scan of the numbers from `start` to `count`, as a loop does it: up to j all were missed. Assumes nothing.
+-- A scan of the numbers from `start` to `count`, as a loop does it: up to j all were missed.
 use Prim.Native.Nat.{ℕ, _+_, _≤_, _<_}
 use native.Mathlib.Omega.{arith}
 use borrow.Author.Count.{below-more}

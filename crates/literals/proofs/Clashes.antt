@@ -1,4 +1,4 @@
--- A literal and its complement in one set: 2a and 2a + 1. Assumes nothing.
+-- A literal and its complement in one set: 2a and 2a + 1.
 use mathlib.Core.Path.{_≡_}
 use mathlib.Core.Bool.{true, _&&_, false≢true}
 use mathlib.Core.Logic.{⊎-elim}

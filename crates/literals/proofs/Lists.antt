@@ -1,4 +1,4 @@
--- Sets made of a list, and the test that a set has all of a list. Assumes nothing.
+-- Sets made of a list, and the test that a set has all of a list.
 use mathlib.Core.Path.{_≡_, refl, sym, ap, _∙_}
 use mathlib.Core.Bool.{true, false≢true}
 use mathlib.Core.List.{List, [], _∷_, List·Memᴰ, List·Memᴰ·head, List·Memᴰ·tail, List·Memᴰ·not-nil, List·Memᴰ·cases-cons}

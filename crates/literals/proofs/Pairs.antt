@@ -1,4 +1,4 @@
--- The machine's test of a clash in one word: w & (w >> 1) & 0x55.. is not 0. Assumes nothing.
+-- The machine's test of a clash in one word: w & (w >> 1) & 0x55.. is not 0.
 use mathlib.Core.Path.{_≡_, refl, sym, ap, _∙_}
 use mathlib.Core.Bool.{Bool, true, not, _&&_}
 use mathlib.Core.List.{List, [], _∷_, List·Memᴰ, List·Memᴰ·head, List·Memᴰ·tail, List·Memᴰ·not-nil, List·Memᴰ·cases-cons}

@@ -1,4 +1,4 @@
--- Facts about the outcomes of tests. Assumes nothing.
+-- Facts about the outcomes of tests.
 use mathlib.Core.Path.{_≡_, refl, sym, ap, _∙_}
 use mathlib.Core.Bool.{Bool, true, false, not, _&&_, _||_, false≢true}
 use mathlib.Core.Logic.{_⊎_, inl, inr}

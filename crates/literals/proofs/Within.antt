@@ -1,4 +1,4 @@
--- Sets within sets, sets that meet, and how many members a set has. Assumes nothing.
+-- Sets within sets, sets that meet, and how many members a set has.
 use mathlib.Core.Path.{_≡_, refl, sym, ap, _∙_}
 use mathlib.Core.Bool.{Bool, true, false, not, _&&_, false≢true}
 use mathlib.Core.Logic.{_⊎_, inl, inr, ⊎-elim}

@@ -1,4 +1,4 @@
--- A set held in two words: its digits are those of the words, and each operation goes word by word. Assumes nothing.
+-- A set held in two words: its digits are those of the words, and each operation goes word by word.
 use mathlib.Core.Path.{_≡_, sym, ap, ap₂, _∙_}
 use mathlib.Core.Bool.{true, not, _&&_, _||_}
 use mathlib.Core.Logic.{⊎-elim}
@@ -12,7 +12,7 @@ use lib.Dec.{eqb, lit<}
 use lib.Pow.{shl-exact, pow-lt, pow-add}
 use borrow.Author.Tests.{eqb-true, eq-eqb}
 use Rattle.literals.specs.Sets.{has, insert, union, minus, within, meets, clashBelow, clash}
-use Rattle.literals.specs.Words.{joined}
+use Rattle.literals.specs.inside.Words.{joined}
 use Rattle.literals.proofs.Tests.{same-test, and-intro, and-left, and-right, or-left, or-right, or-cases}
 use Rattle.literals.proofs.Bits.{bit-low, bit-high}
 use Rattle.literals.proofs.Members.{union-empty, insert-union}

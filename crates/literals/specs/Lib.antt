@@ -1,3 +1,3 @@
--- What the contracts of `literals` cite: sets as numbers, and the number that two words hold.
+-- What the contracts of `literals` cite: sets as numbers.
 pub mod Sets
-pub mod Words
+pub mod inside

@@ -1,5 +1,5 @@
 -- Sets of small numbers, each held as one number: the sum of 2 ^ k over its members k. A set of literals and a mask of
--- defeasible rules are both such sets. Written with division and remainder, so that they compute. Assumes nothing.
+-- defeasible rules are both such sets. Written with division and remainder, so that they compute.
 use mathlib.Core.Path.{_≡_}
 use mathlib.Core.Bool.{Bool, true, false, not, _&&_, _||_}
 use mathlib.Core.List.{List, [], _∷_}

@@ -6,7 +6,7 @@ ghost use lib.Dec.{eqb};
 ghost use lib.Count.{ones};
 ghost use Rattle.literals.specs.Sets.{has as «hasOf», insert as «insertOf», union as «unionOf»};
 ghost use Rattle.literals.specs.Sets.{minus as «minusOf», within as «withinOf», meets as «meetsOf», clash};
-ghost use Rattle.literals.specs.Words.{joined, setOf};
+ghost use Rattle.literals.specs.inside.Words.{joined, setOf};
 
 pub mod masks;
 

@@ -1,5 +1,5 @@
 -- Rows at the front of the node table, written one at a time; and that the entries' fields in four tables make up the
--- entries. Assumes nothing.
+-- entries.
 use mathlib.Core.Path.{_≡_, refl, sym, ap, _∙_}
 use mathlib.Core.List.{List, [], _∷_, _++_, map, map-append}
 use Prim.Native.Nat.{ℕ, suc, _+_, _≤_, _<_}
@@ -9,10 +9,11 @@ use lib.Seq.{drop-cons, append-snoc, set-at}
 use Rattle.lists.specs.Lists.{upto}
 use Rattle.lists.proofs.Lists.{upto-length, upto-last, upto-shift}
 use Rattle.tree.specs.Entries.{Entry}
-use Rattle.tree.specs.Tables.{Columns, columns}
+use Rattle.tree.specs.inside.Tables.{Columns, columns}
 use Rattle.answer.specs.Tables.{front, zeroed}
 use Rattle.nodes.specs.declared.Node.{Node}
-use Rattle.nodes.specs.Rows.{nodeOf, rowAt, rows}
+use Rattle.nodes.specs.Nodes.{nodeOf}
+use Rattle.nodes.specs.inside.Rows.{rowAt, rows}
 
 -- ---- rows at the front of a table
 

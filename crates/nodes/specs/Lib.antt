@@ -1,2 +1,3 @@
 -- Entries of the node table.
-pub mod Rows
+pub mod Nodes
+pub mod inside

@@ -2,14 +2,14 @@
 ghost use mathlib.Core.Path.{_≡_};
 ghost use Prim.Native.Nat.{_<_, _≤_};
 ghost use lib.ListN.{length};
-ghost use Rattle.tree.specs.Tables.{columns, Hold};
+ghost use Rattle.tree.specs.inside.Tables.{columns, Hold};
 ghost use Rattle.answer.specs.Answer.{nodesOf};
 ghost use Rattle.answer.specs.Tables.{front};
-ghost use Rattle.nodes.specs.Rows.{rowAt, rows};
+ghost use Rattle.nodes.specs.inside.Rows.{rowAt, rows};
 use answer::Answer;
 
 // A node of a dialectical tree: its argument's index in the argument list, its parent's node number, its kind, its mark.
-// In C's layout, since tests lend such a table from outside.
+// In C's layout, since C programs lend such a table.
 #[repr(C)]
 pub struct Node {
     pub argument: u32,

@@ -1,14 +1,14 @@
--- What is concluded from the number of nodes and the roots. Assumes nothing.
+-- What is concluded from the number of nodes and the roots.
 use mathlib.Core.Path.{_≡_, refl}
 use mathlib.Core.Bool.{Bool, true, false}
 use Prim.Native.Nat.{ℕ, _≤_, _<_}
 use lib.Dec.{ltb}
 use borrow.Author.Tests.{lt-ltb, le-ltb}
-use Rattle.tree.specs.Tables.{Columns}
+use Rattle.tree.specs.inside.Tables.{Columns}
 use Rattle.answer.specs.declared.Answer.{Answer}
 use Rattle.answer.specs.declared.Answer.the-variants.{Unfinished}
 use Rattle.answer.specs.Answer.{answerOf}
-use Rattle.answer.specs.Tables.{cleared, clearedIf}
+use Rattle.answer.specs.inside.Columns.{cleared, clearedIf}
 
 abbrev pub Concluded : (budget nodes : ℕ) (won lost : Bool) (r : Answer) (before after : Columns) → Type 0
 Concluded b nodes won lost r before after =

@@ -1,12 +1,13 @@
--- A table whose first entries are all the same, one entry more at a time. Assumes nothing.
+-- A table whose first entries are all the same, one entry more at a time.
 use mathlib.Core.Path.{_≡_, refl, sym, ap, _∙_}
 use mathlib.Core.List.{List, [], _∷_}
 use Prim.Native.Nat.{ℕ, zero, suc, _+_, _≤_, _<_}
 use native.Mathlib.Omega.{arith}
 use lib.ListN.{length, set, drop, replicate, length-append, length-drop, length-replicate}
-use Rattle.tree.specs.Tables.{Columns, columns}
+use Rattle.tree.specs.inside.Tables.{Columns, columns}
 use Rattle.tree.proofs.Tables.{columns-same}
-use Rattle.answer.specs.Tables.{front, cleared}
+use Rattle.answer.specs.Tables.{front}
+use Rattle.answer.specs.inside.Columns.{cleared}
 
 module _ {A : Type 0} (x : A) where
   front-more : (i : ℕ) (t : List A) → i < length t → set (front (replicate i x) t) i x ≡ front (replicate (suc i) x) t

@@ -4,9 +4,9 @@ ghost use Prim.Native.Nat.{_≤_};
 ghost use mathlib.Core.Path.{_≡_};
 ghost use mathlib.Core.Bool.{true};
 ghost use lib.Dec.{ltb};
-ghost use Rattle.tree.specs.Tables.{columns, Hold};
+ghost use Rattle.tree.specs.inside.Tables.{columns, Hold};
 ghost use Rattle.answer.specs.Answer.{answerOf};
-ghost use Rattle.answer.specs.Tables.{cleared as «clearedTo», clearedIf};
+ghost use Rattle.answer.specs.inside.Columns.{cleared as «clearedTo», clearedIf};
 use answer::Answer;
 use forest::roots::Grown;
 

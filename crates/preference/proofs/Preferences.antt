@@ -1,4 +1,4 @@
--- The computed preference is the published one, and the masks of the beaten rules decide it. Assumes nothing.
+-- The computed preference is the published one, and the masks of the beaten rules decide it.
 use mathlib.Core.Path.{_≡_, sym, ap, _∙_}
 use mathlib.Core.Bool.{true, false, not, _&&_, false≢true}
 use mathlib.Core.List.{List}
@@ -14,7 +14,7 @@ use Rattle.literals.proofs.Members.{has-bound, has-empty, has-minus-power}
 use Rattle.literals.proofs.Within.{within-each, minus-within, meets-both, both-meets}
 use Rattle.program.specs.Program.{Program, isDefeasible, defeasibles, ruleAt, bitOf, inMask, beaten}
 use Rattle.program.specs.Limits.{DefeasibleAt, Limits, Mask}
-use Rattle.program.specs.Table.{Holds, beatenAt}
+use Rattle.program.specs.inside.Table.{Holds, beatenAt}
 use Rattle.program.proofs.Numbers.{defeasible-test, defeasible-found, bit-of-same, bit-of-found}
 use Rattle.program.proofs.Pairs.{beaten-found, beaten-exact}
 use Rattle.preference.specs.Preference.{RuleOf, SomeBeats, Preferred, beatsSome, preferredTest}

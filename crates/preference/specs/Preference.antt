@@ -1,5 +1,5 @@
 -- Preference between arguments (document 01, "Attack and defeat"), of the rules that two masks stand for: as published,
--- and as a test that evaluates. Assumes nothing.
+-- and as a test that evaluates.
 use mathlib.Core.Path.{_≡_}
 use mathlib.Core.Bool.{Bool, true, not, _&&_}
 use mathlib.Core.List.{List·Memᴰ}

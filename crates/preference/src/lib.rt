@@ -3,7 +3,7 @@ ghost use mathlib.Core.Path.{_≡_};
 ghost use Prim.Native.Nat.{_<_, _^_};
 ghost use Rattle.program.specs.Program.{Program};
 ghost use Rattle.program.specs.Limits.{Limits, Mask};
-ghost use Rattle.program.specs.Table.{Holds};
+ghost use Rattle.program.specs.inside.Table.{Holds};
 ghost use Rattle.preference.specs.Preference.{beatsSome, preferredTest};
 use literals::masks;
 use program::RuleTable;

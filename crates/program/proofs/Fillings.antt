@@ -1,4 +1,4 @@
--- Filling the rule table, rule by rule. Assumes nothing.
+-- Filling the rule table, rule by rule.
 use mathlib.Core.Path.{_≡_, refl, sym, ap, ap₂, subst, _∙_}
 use mathlib.Core.Bool.{Bool, true, false}
 use mathlib.Core.List.{List, [], _∷_}
@@ -11,12 +11,12 @@ use lib.ListN.{length, getD, set, take, length-set}
 use lib.Seq.{getD-set-same, getD-set-other}
 use Rattle.literals.specs.declared.LiteralSet.{LiteralSet}
 use Rattle.literals.specs.Sets.{choose, insertAll}
-use Rattle.literals.specs.Words.{joined, setOf}
+use Rattle.literals.specs.inside.Words.{joined, setOf}
 use Rattle.program.specs.Program.{Kind, strict, defeasible, Rule, Program, isDefeasible, nextBit, defeasiblesFrom, defeasibles, bitOf, ruleAt, beaten}
 use Rattle.program.specs.Limits.{DefeasibleAt}
-use Rattle.program.specs.Table.{Row, ruleOfBit, beatenAt, needOf, Holds}
-use Rattle.program.specs.Store.{withRow, withBit, withBeaten, withCounts}
-use Rattle.program.specs.Filling.{SameRow, Stored, RowsTo, BeatenTo}
+use Rattle.program.specs.inside.Table.{Row, ruleOfBit, beatenAt, needOf, Holds}
+use Rattle.program.specs.inside.Store.{withRow, withBit, withBeaten, withCounts}
+use Rattle.program.specs.inside.Filling.{SameRow, Stored, RowsTo, BeatenTo}
 use Rattle.program.proofs.Numbers.{defeasible-found, bit-of-less, bit-of-below}
 use Rattle.program.proofs.Stores.{Beside, beside-row, beside-rows, row-beside, row-head, row-body, row-need, row-length}
 

@@ -1,5 +1,5 @@
 -- "they get bits 0 to 15 in table order": how the defeasible rules are numbered by bits. The laws of `defeasiblesFrom` go
--- down the list, those of `bitOf` follow from them. Assumes nothing.
+-- down the list, those of `bitOf` follow from them.
 use mathlib.Core.Path.{_≡_, refl, ap}
 use mathlib.Core.List.{List, [], _∷_}
 use mathlib.Core.Bool.{true, false≢true}

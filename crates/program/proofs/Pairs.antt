@@ -1,5 +1,5 @@
 -- "the first beats the second": the mask of the rules that a rule beats has the bits of those that the pairs list, and no
--- other. Assumes nothing.
+-- other.
 use mathlib.Core.Path.{_≡_, refl, sym, ap, _∙_}
 use mathlib.Core.List.{List, [], _∷_, List·Memᴰ, List·Memᴰ·head, List·Memᴰ·tail, Memᴰ·cast}
 use mathlib.Core.Bool.{Bool, true, false, false≢true}

@@ -1,6 +1,4 @@
--- What a program is, its limits, and the table of words that the engine works on.
+-- What a program is, and its limits.
 pub mod Program
 pub mod Limits
-pub mod Table
-pub mod Store
-pub mod Filling
+pub mod inside

@@ -1,4 +1,4 @@
--- Those limits of document 01 that proofs use: its causes 1 to 13 enforce them on an image, and more. Assumes nothing.
+-- Those limits of document 01 that proofs use: its causes 1 to 13 enforce them on an image, and more.
 use mathlib.Core.Path.{_≡_}
 use mathlib.Core.List.{List, List·Memᴰ}
 use Prim.Native.Nat.{ℕ, _*_, _^_, _<_, _≤_}

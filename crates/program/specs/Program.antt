@@ -1,5 +1,5 @@
 -- What a program is (document 01, "The program image" and "Derivation and arguments"). No byte of an image stands here:
--- a program may come from anywhere. Assumes nothing.
+-- a program may come from anywhere.
 use mathlib.Core.Bool.{Bool, true, false, _&&_, _||_, not}
 use mathlib.Core.List.{List, [], _∷_}
 use Prim.Native.Nat.{ℕ, zero, suc, _^_}

@@ -1,9 +1,9 @@
 // The rule table: the words that the engine reads a program from. Its layout stands here and in specs/, nowhere else.
 ghost use mathlib.Core.Path.{_≡_};
 ghost use Prim.Native.Nat.{_<_};
-ghost use Rattle.literals.specs.Words.{setOf};
-ghost use Rattle.program.specs.Table.{headAt, bodyAt, needAt, ruleOfBit, beatenAt, ruleCount, bitCount, atomCount};
-ghost use Rattle.program.specs.Store.{withRow, withBit, withBeaten, withCounts};
+ghost use Rattle.literals.specs.inside.Words.{setOf};
+ghost use Rattle.program.specs.inside.Table.{headAt, bodyAt, needAt, ruleOfBit, beatenAt, ruleCount, bitCount, atomCount};
+ghost use Rattle.program.specs.inside.Store.{withRow, withBit, withBeaten, withCounts};
 use literals::LiteralSet;
 
 pub type RuleTable = [u64; 419];

@@ -4,10 +4,10 @@ ghost use mathlib.Core.Path.{_≡_};
 ghost use Prim.Native.Nat.{_≤_};
 ghost use Rattle.program.specs.Program.{Program};
 ghost use Rattle.program.specs.Limits.{Limits};
-ghost use Rattle.program.specs.Table.{bitCount, Holds};
+ghost use Rattle.program.specs.inside.Table.{bitCount, Holds};
 ghost use Rattle.argument.specs.List.{argumentList};
-ghost use Rattle.argument.specs.Closures.{Numbered};
-ghost use Rattle.listing.specs.Listing.{listed, withList, Lists};
+ghost use Rattle.argument.specs.inside.Closures.{Numbered};
+ghost use Rattle.listing.specs.inside.Listing.{listed, withList, Lists};
 use listing::Listed;
 use program::RuleTable;
 

@@ -1,4 +1,4 @@
--- What is asked of a candidate, and its number from the answers. Assumes nothing.
+-- What is asked of a candidate, and its number from the answers.
 use mathlib.Core.Path.{_≡_, refl, sym, ap, _∙_, subst}
 use mathlib.Core.Bool.{Bool, true, false, not, _||_}
 use mathlib.Core.List.{List, _∷_, List·Memᴰ, List·Memᴰ·head, List·Memᴰ·tail}
@@ -10,15 +10,15 @@ use Rattle.literals.specs.Sets.{union, within, clash}
 use Rattle.program.specs.Program.{defeasibles}
 use Rattle.argument.specs.Argument.{maskOf}
 use Rattle.argument.specs.List.{argumentList}
-use Rattle.argument.specs.Closures.{closureAt}
+use Rattle.argument.specs.inside.Closures.{closureAt}
 use Rattle.defeat.specs.Tests.{kind}
 use Rattle.preference.specs.Preference.{preferredTest}
 use Rattle.defeat.specs.OfProgram.{testsOf}
-use Rattle.defeat.specs.Exclusions.{Numbers}
-use Rattle.defeat.specs.Steps.{attacksBy}
+use Rattle.defeat.specs.inside.Exclusions.{Numbers}
+use Rattle.defeat.specs.inside.Steps.{attacksBy}
 use Rattle.defeat.proofs.Attacks.{kind-apart}
 use Rattle.tree.specs.Reply.{theirs, permit, replyKind, lastKind}
-use Rattle.tree.specs.Steps.{lineOf, masksOf, Prepared, testsIn, Asked}
+use Rattle.tree.specs.inside.Steps.{lineOf, masksOf, Prepared, testsIn, Asked}
 use Rattle.tree.proofs.Line.{sides-within}
 use Rattle.tree.proofs.Steps.{line-last, listed-in}
 use Rattle.tree.proofs.Listings.{prepared-mask, prepared-entry, prepared-small}

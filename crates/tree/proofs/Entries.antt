@@ -1,4 +1,4 @@
--- The entries of a forest: how many there are, and the first tree's apart from the others'. Assumes nothing.
+-- The entries of a forest: how many there are, and the first tree's apart from the others'.
 use mathlib.Core.Path.{_≡_, refl, ap, _∙_}
 use mathlib.Core.List.{List, [], _∷_, _++_, map, append-nil, append-assoc, map-append}
 use Prim.Native.Nat.{ℕ, suc, _+_}

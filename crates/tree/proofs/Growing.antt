@@ -1,5 +1,4 @@
--- The trees below a node, written one after another: the entries and the mark of the node come out as defined. Assumes
--- nothing.
+-- The trees below a node, written one after another: the entries and the mark of the node come out as defined.
 use mathlib.Core.Path.{_≡_, refl, sym, ap, _∙_, subst}
 use mathlib.Core.Bool.{Bool, true, false, not, _&&_}
 use mathlib.Core.List.{List, [], _∷_, _++_, List·Memᴰ, append-nil}
@@ -15,8 +14,8 @@ use Rattle.tree.specs.Reply.{replyKind}
 use Rattle.tree.specs.Forest.{Forest, none, tree, size, allDefeated, markOf, from, replies}
 use Rattle.tree.specs.Entries.{Entry, entryOf, preorder}
 use Rattle.tree.specs.OfLiteral.{indexIn}
-use Rattle.tree.specs.Tables.{Columns, written, Built, fits, over}
-use Rattle.tree.specs.Steps.{treeEntries, settledBy, FirstReply}
+use Rattle.tree.specs.inside.Tables.{Columns, written, Built, fits, over}
+use Rattle.tree.specs.inside.Steps.{treeEntries, settledBy, FirstReply}
 use Rattle.tree.proofs.Forest.{from-skip-at, from-take-at, replies-unroll}
 use Rattle.tree.proofs.Entries.{preorder-length, preorder-first}
 use Rattle.tree.proofs.Tables.{written-mark}

@@ -1,4 +1,4 @@
--- Lines: the sides are the even and the odd positions, and what an acceptable line gives. Assumes nothing.
+-- Lines: the sides are the even and the odd positions, and what an acceptable line gives.
 use mathlib.Core.Path.{_≡_, refl, sym, subst, ap, _∙_}
 use mathlib.Core.List.{List, [], _∷_, List·Memᴰ·head, List·Memᴰ·tail, List·Memᴰ·not-nil}
 use mathlib.Core.Logic.{_⊎_, inl, inr}

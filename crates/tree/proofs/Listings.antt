@@ -18,7 +18,7 @@ use Rattle.argument.specs.List.{argumentList}
 use Rattle.argument.proofs.Lists.{list-ascends, list-ascending, list-length}
 use Rattle.defeat.specs.OfProgram.{testsOf}
 use Rattle.tree.specs.OfLiteral.{indexIn}
-use Rattle.tree.specs.Steps.{Prepared, testsIn}
+use Rattle.tree.specs.inside.Steps.{Prepared, testsIn}
 use Rattle.tree.proofs.Growing.{Listing}
 
 -- ---- a list that ascends

@@ -1,4 +1,4 @@
--- Every acceptable line has one mark, and it is the computed one. Assumes nothing.
+-- Every acceptable line has one mark, and it is the computed one.
 use mathlib.Core.Path.{_≡_, refl}
 use mathlib.Core.Bool.{Bool, true, false, not}
 use mathlib.Core.List.{List, [], _∷_, List·Memᴰ}

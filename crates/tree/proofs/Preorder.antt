@@ -1,4 +1,4 @@
--- The computed entries are the published ones, and there are no others. Assumes nothing.
+-- The computed entries are the published ones, and there are no others.
 use mathlib.Core.Path.{_≡_, refl, sym, ap, subst}
 use mathlib.Core.Bool.{Bool, true, false}
 use mathlib.Core.List.{List, [], _∷_, _++_, List·Memᴰ, List·Memᴰ·head, List·Memᴰ·tail, List·Memᴰ·not-nil}

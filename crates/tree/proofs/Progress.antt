@@ -1,5 +1,4 @@
--- Runs of entries written one after another, up to a limit: what is written and what is left make up the whole. Assumes
--- nothing.
+-- Runs of entries written one after another, up to a limit: what is written and what is left make up the whole.
 use mathlib.Core.Path.{_≡_, refl, sym, ap, _∙_}
 use mathlib.Core.List.{List, [], _∷_, _++_, map}
 use Prim.Native.Nat.{ℕ, suc, _+_, _≤_, _<_}
@@ -7,7 +6,7 @@ use native.Mathlib.Omega.{arith}
 use lib.ListN.{length, set, length-append}
 use lib.Seq.{drop-set-lt}
 use Rattle.tree.specs.Entries.{Entry}
-use Rattle.tree.specs.Tables.{Columns, columns, written, past, Built, fits, over}
+use Rattle.tree.specs.inside.Tables.{Columns, columns, written, past, Built, fits, over}
 use Rattle.tree.proofs.Stores.{set-sets}
 use Rattle.tree.proofs.Tables.{columns-same, written-append, written-past}
 

@@ -1,5 +1,5 @@
 -- The test of one more argument is the definition of a child: what was acceptable stays so exactly if the new argument
--- passes. Assumes nothing.
+-- passes.
 use mathlib.Core.Path.{_≡_, refl, sym, subst, _∙_}
 use mathlib.Core.Bool.{Bool, true, false, not, _&&_, _||_}
 use mathlib.Core.List.{List, [], _∷_, List·Memᴰ, List·Memᴰ·head, List·Memᴰ·tail}

@@ -1,4 +1,4 @@
--- The builder of a literal's trees on its way: those of the arguments up to a number are written. Assumes nothing.
+-- The builder of a literal's trees on its way: those of the arguments up to a number are written.
 use mathlib.Core.Path.{_≡_, refl, _∙_}
 use mathlib.Core.Bool.{Bool, false, _||_}
 use mathlib.Core.List.{List, []}
@@ -7,9 +7,9 @@ use native.Mathlib.Omega.{arith}
 use lib.ListN.{length, getD}
 use lib.Dec.{eqb}
 use Rattle.lists.proofs.Lists.{within-nil}
-use Rattle.tree.specs.Tables.{Columns, Built}
-use Rattle.tree.specs.Steps.{treeEntries, Prepared, testsIn, Ready}
-use Rattle.tree.specs.Roots.{RootsReady, FirstFor, TreesBuilt}
+use Rattle.tree.specs.inside.Tables.{Columns, Built}
+use Rattle.tree.specs.inside.Steps.{treeEntries, Prepared, testsIn, Ready}
+use Rattle.tree.specs.inside.Roots.{RootsReady, FirstFor, TreesBuilt}
 use Rattle.tree.proofs.Growing.{tree-room}
 use Rattle.tree.proofs.Listings.{prepared-count, prepared-listing}
 use Rattle.tree.proofs.Turn.{Long, Lengths, long-kept, long-trans, hold-long}

@@ -1,4 +1,4 @@
--- The masks of a side as one, and the tests of a candidate that the closure table and the line answer. Assumes nothing.
+-- The masks of a side as one, and the tests of a candidate that the closure table and the line answer.
 use mathlib.Core.Path.{_≡_, refl, sym, ap, _∙_}
 use mathlib.Core.Bool.{Bool, true, false, not, _&&_, _||_}
 use mathlib.Core.List.{List, [], _∷_, List·Memᴰ, List·Memᴰ·head, List·Memᴰ·tail}
@@ -15,11 +15,11 @@ use Rattle.program.specs.Program.{Rule, Program, Π-mask, defeasibles}
 use Rattle.derivation.specs.Closure.{contradictory}
 use Rattle.derivation.proofs.Choices.{Π-with-ext}
 use Rattle.argument.specs.Argument.{maskOf}
-use Rattle.argument.specs.Closures.{closureAt, Filled}
+use Rattle.argument.specs.inside.Closures.{closureAt, Filled}
 use Rattle.defeat.specs.Tests.{Tests, kind}
 use Rattle.defeat.specs.OfProgram.{inSome, Π-all, testsOf}
 use Rattle.tree.specs.Reply.{theirs, permit, unused, mayFollow, joins, replyKind, lastKind}
-use Rattle.tree.specs.Steps.{masksOf}
+use Rattle.tree.specs.inside.Steps.{masksOf}
 use Rattle.tree.proofs.Reply.{mayFollow-kinds}
 
 -- ---- masks of several arguments

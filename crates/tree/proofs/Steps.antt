@@ -1,4 +1,4 @@
--- From what a step is asked to what it asks of a candidate and of a reply's step. Assumes nothing.
+-- From what a step is asked to what it asks of a candidate and of a reply's step.
 use mathlib.Core.Path.{_≡_, refl, sym, ap, _∙_, subst}
 use mathlib.Core.List.{List, [], _∷_, List·Memᴰ, List·Memᴰ·head, List·Memᴰ·tail}
 use Prim.Native.Nat.{ℕ, zero, suc, _+_, _-_, _≤_, _<_}
@@ -10,8 +10,8 @@ use Rattle.lists.specs.Lists.{Within}
 use Rattle.literals.specs.Sets.{union}
 use Rattle.argument.specs.Argument.{maskOf}
 use Rattle.tree.specs.Reply.{mine, theirs, lastKind}
-use Rattle.tree.specs.Tables.{Columns, Hold}
-use Rattle.tree.specs.Steps.{lineOf, masksOf, Prepared, testsIn, Ready, Asked, FirstReply}
+use Rattle.tree.specs.inside.Tables.{Columns, Hold}
+use Rattle.tree.specs.inside.Steps.{lineOf, masksOf, Prepared, testsIn, Ready, Asked, FirstReply}
 use Rattle.tree.proofs.Reply.{reply-last}
 
 -- ---- the line in its table

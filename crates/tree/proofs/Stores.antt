@@ -1,4 +1,4 @@
--- Runs of stores into a table. Assumes nothing.
+-- Runs of stores into a table.
 use mathlib.Core.Path.{_≡_, refl, ap, _∙_}
 use mathlib.Core.List.{List, [], _∷_, _++_}
 use Prim.Native.Nat.{ℕ, suc, _+_, _≤_, _<_}

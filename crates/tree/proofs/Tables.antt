@@ -1,5 +1,5 @@
 -- Entries written into the four tables of a forest, one run after another: what is written and what is left make up the
--- whole. Assumes nothing.
+-- whole.
 use mathlib.Core.Path.{_≡_, ap, _∙_}
 use mathlib.Core.List.{List, _∷_, _++_, map, map-append}
 use Prim.Native.Nat.{ℕ, _+_, _≤_, _<_}
@@ -7,7 +7,7 @@ use native.Mathlib.Omega.{arith}
 use lib.ListN.{length, getD, drop, length-map}
 use lib.Seq.{sets, sets-eq}
 use Rattle.tree.specs.Entries.{Entry}
-use Rattle.tree.specs.Tables.{Columns, columns, written, past}
+use Rattle.tree.specs.inside.Tables.{Columns, columns, written, past}
 use Rattle.tree.proofs.Stores.{sets-append, drop-sets, getD-first}
 
 -- ---- one column

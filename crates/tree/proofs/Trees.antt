@@ -1,4 +1,4 @@
--- The trees of a literal's arguments, written one after another. Assumes nothing.
+-- The trees of a literal's arguments, written one after another.
 use mathlib.Core.Path.{_≡_, refl, sym, ap, _∙_, subst}
 use mathlib.Core.Bool.{Bool, true, false, _||_}
 use mathlib.Core.List.{List, [], _∷_, _++_, append-nil}
@@ -17,9 +17,9 @@ use Rattle.defeat.specs.Tests.{Tests}
 use Rattle.tree.specs.Forest.{Forest, none, tree, size, markOf, replies, forestOf, undefeatedRoot}
 use Rattle.tree.specs.Entries.{Entry, entries}
 use Rattle.tree.specs.OfLiteral.{indexIn, argumentsFor, forest, forestEntries, warranted}
-use Rattle.tree.specs.Tables.{Columns, Built, fits, over}
-use Rattle.tree.specs.Steps.{treeEntries}
-use Rattle.tree.specs.Roots.{FirstFor, TreesBuilt, ForestBuilt}
+use Rattle.tree.specs.inside.Tables.{Columns, Built, fits, over}
+use Rattle.tree.specs.inside.Steps.{treeEntries}
+use Rattle.tree.specs.inside.Roots.{FirstFor, TreesBuilt, ForestBuilt}
 use Rattle.tree.proofs.Entries.{preorder-length, entries-length, entries-first, entries-roots}
 use Rattle.tree.proofs.Progress.{Progress, progress-start, progress-end, progress-step, progress-over}
 use Rattle.tree.proofs.Growing.{Listing, at-list, list-length, built-end, tree-mark}

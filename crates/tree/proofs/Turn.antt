@@ -1,5 +1,4 @@
--- A step on its way: the replies up to a candidate are written. One record of what holds then serves both sides. Assumes
--- nothing.
+-- A step on its way: the replies up to a candidate are written. One record of what holds then serves both sides.
 use mathlib.Core.Path.{_≡_, refl, sym, ap, _∙_}
 use mathlib.Core.List.{List, _∷_}
 use Prim.Native.Nat.{ℕ, suc, _+_, _-_, _^_, _≤_, _<_}
@@ -11,8 +10,8 @@ use Rattle.defeat.specs.Tests.{Tests}
 use Rattle.tree.specs.Forest.{allDefeated, markOf, replies}
 use Rattle.tree.specs.Entries.{Entry, preorder}
 use Rattle.tree.specs.OfLiteral.{indexIn}
-use Rattle.tree.specs.Tables.{Columns, columns, Hold, Built}
-use Rattle.tree.specs.Steps.{lineOf, treeEntries, settledBy, Prepared, testsIn, Ready, Leaves, Asked, FirstReply, Enters, Entered}
+use Rattle.tree.specs.inside.Tables.{Columns, columns, Hold, Built}
+use Rattle.tree.specs.inside.Steps.{lineOf, treeEntries, settledBy, Prepared, testsIn, Ready, Leaves, Asked, FirstReply, Enters, Entered}
 use Rattle.tree.proofs.Progress.{opened, closed}
 use Rattle.tree.proofs.Growing.{Going, going-start, going-end, going-over, going-step, tree-room, tree-none, tree-over, tree-end}
 use Rattle.tree.proofs.Steps.{line-same, line-more, line-less, ready-asked, ready-reply}

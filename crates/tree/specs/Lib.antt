@@ -1,5 +1,5 @@
--- Argumentation lines, dialectical trees and marks: as published (Line, Marks, Published), as computed (Reply, Forest,
--- Entries, OfLiteral), and in lent tables (Tables, Steps, Roots).
+-- Argumentation lines, dialectical trees and marks: as published (Line, Marks, Published) and as computed (Reply, Forest,
+-- Entries, OfLiteral).
 pub mod Line
 pub mod Marks
 pub mod Reply
@@ -7,6 +7,4 @@ pub mod Forest
 pub mod Entries
 pub mod OfLiteral
 pub mod Published
-pub mod Tables
-pub mod Steps
-pub mod Roots
+pub mod inside

@@ -8,7 +8,7 @@ ghost use Rattle.lists.specs.Lists.{any};
 ghost use Rattle.literals.specs.Sets.{within};
 ghost use Rattle.argument.specs.Argument.{maskOf};
 ghost use Rattle.tree.specs.Reply.{permit, replyKind};
-ghost use Rattle.tree.specs.Steps.{lineOf, Prepared, testsIn, Asked, FirstReply};
+ghost use Rattle.tree.specs.inside.Steps.{lineOf, Prepared, testsIn, Asked, FirstReply};
 use argument::closures;
 use argument::numbers::mask_of;
 use defeat::defeaters;

@@ -1,6 +1,6 @@
 // A node's entry in the tables, and its mark.
 ghost use mathlib.Core.Path.{_≡_};
-ghost use Rattle.tree.specs.Steps.{settledBy, Enters, Entered};
+ghost use Rattle.tree.specs.inside.Steps.{settledBy, Enters, Entered};
 
 // A node's mark after one reply more: a reply that is marked U (1) makes it D (2).
 pub fn settled(mark: u8, reply: u8) -> u8

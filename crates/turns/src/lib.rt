@@ -1,8 +1,8 @@
 // Supporter and objector take turns down every line. Each step writes the tree of one argument into four lent tables, in
 // preorder, and marks it.
 ghost use Prim.Native.Nat.{_<_};
-ghost use Rattle.tree.specs.Tables.{columns};
-ghost use Rattle.tree.specs.Steps.{Ready, Leaves};
+ghost use Rattle.tree.specs.inside.Tables.{columns};
+ghost use Rattle.tree.specs.inside.Steps.{Ready, Leaves};
 use argument::numbers::mask_of;
 use program::RuleTable;
 use tree::candidates::first_reply;

@@ -2,7 +2,7 @@
 use mathlib.Core.Path.{_≡_, refl, sym, ap, _∙_, subst, subst₂}
 use mathlib.Core.List.{List, map}
 use mathlib.Core.Logic.{_↔_}
-use Prim.Native.Nat.{ℕ}
+use Prim.Native.Nat.{ℕ, _≤_}
 use native.Mathlib.Omega.{arith}
 use lib.ListN.{length, replicate}
 use Rattle.program.specs.Program.{Program}
@@ -65,23 +65,19 @@ only x settled = (x, settled x .1 refl, λ y. settled y .0)
 
 -- ---- the node table
 
+finished : (code b : ℕ) (es : List Entry) (table : List Node) → code ≤ 3
+    → NodesAfter code b es table (front (map nodeOf es) table)
+finished code b es table h = record {
+  after-unknown = λ e. absurd (omega arith);
+  after-unfinished = λ e. absurd (omega arith);
+  after-finished = λ _. refl;
+}
+
 nodes-after : (a : Answer) (b : ℕ) (es : List Entry) (table : List Node) → (codeOf a ≡ 0 → ⊥) → (codeOf a ≡ 5 → nodesOf a ≡ b)
     → NodesAfter (codeOf a) b es table (nodesAfter a (map nodeOf es) (nodeOf zeroed) table)
-nodes-after (Yes n) b es table f g = record {
-  after-unknown = λ e. absurd (omega arith);
-  after-unfinished = λ e. absurd (omega arith);
-  after-finished = λ e. refl;
-}
-nodes-after (No n) b es table f g = record {
-  after-unknown = λ e. absurd (omega arith);
-  after-unfinished = λ e. absurd (omega arith);
-  after-finished = λ e. refl;
-}
-nodes-after (Undecided n) b es table f g = record {
-  after-unknown = λ e. absurd (omega arith);
-  after-unfinished = λ e. absurd (omega arith);
-  after-finished = λ e. refl;
-}
+nodes-after (Yes n) b es table f g = finished 1 b es table (omega arith)
+nodes-after (No n) b es table f g = finished 2 b es table (omega arith)
+nodes-after (Undecided n) b es table f g = finished 3 b es table (omega arith)
 nodes-after Unknown b es table f g = record {
   after-unknown = λ e. refl;
   after-unfinished = λ e. absurd (omega arith);

@@ -70,7 +70,7 @@ packed-below Unknown h = omega arith
 packed-below (Unfinished n) h = omega arith
 packed-below (Refused n place) h = let k = h .1 in omega arith
 
--- beside a refusal the two numbers of an answer are one
+-- but for a refusal, the numbers of the two calls from C are one
 number-packed : (a : Answer) → (codeOf a ≡ 0 → ⊥) → answeredNumber a ≡ packed a
 number-packed (Yes n) f = refl
 number-packed (No n) f = refl

@@ -1,4 +1,4 @@
--- What the query answers and leaves, cause by cause, and from the answer in the program. Assumes nothing.
+-- What the query answers and leaves, cause by cause, and from the answer in the program.
 use mathlib.Core.Path.{_≡_, refl, sym, ap, ap₂, _∙_}
 use mathlib.Core.Bool.{Bool, true, false}
 use mathlib.Core.List.{List}
@@ -12,18 +12,19 @@ use Rattle.layout.specs.declared.Verdict.the-variants as verdicts
 use Rattle.layout.specs.Causes.{refuse, andThen}
 use Rattle.layout.specs.Reading.{programIn}
 use Rattle.image.proofs.Accepted.{accepted-limits}
-use Rattle.program.specs.Table.{Holds}
-use Rattle.tree.specs.Tables.{Columns}
+use Rattle.program.specs.inside.Table.{Holds}
+use Rattle.tree.specs.inside.Tables.{Columns}
 use Rattle.tree.proofs.Tables.{columns-same}
 use Rattle.answer.specs.declared.Answer.{Answer}
 use Rattle.answer.specs.declared.Answer.the-variants.{Refused}
 use Rattle.answer.specs.Answer.{tests, forestEntries, answer}
-use Rattle.answer.specs.Tables.{front, columnsAfter}
-use Rattle.decision.specs.Steps.{Held, settled, Settled}
-use Rattle.listing.specs.Listing.{withList}
+use Rattle.answer.specs.Tables.{front}
+use Rattle.answer.specs.inside.Columns.{columnsAfter}
+use Rattle.decision.specs.inside.Steps.{Held, settled, Settled}
+use Rattle.listing.specs.inside.Listing.{withList}
 use Rattle.calls.specs.Calls.{checkImage, listIn, queryVerdict, answeredBy, queried, unlessRefused, queryArguments}
 use Rattle.calls.specs.Calls.{queryColumn}
-use Rattle.warrant.specs.Columns.{queryColumns}
+use Rattle.warrant.specs.inside.Columns.{queryColumns}
 use Rattle.calls.proofs.Refusals.{check-accepted}
 
 -- an accepted image's program is within the limits

@@ -1,5 +1,4 @@
--- The rows which the query over columns leaves, as many as its answer names, are the entries of the node table. Assumes
--- nothing.
+-- The rows which the query over columns leaves, as many as its answer names, are the entries of the node table.
 use mathlib.Core.Path.{_≡_, refl, sym, ap, _∙_}
 use mathlib.Core.Bool.{Bool, true, false}
 use mathlib.Core.List.{List, [], map}
@@ -14,17 +13,17 @@ use Rattle.layout.specs.Reading.{programIn}
 use Rattle.derivation.specs.Derivation.{complement}
 use Rattle.preference.specs.Preference.{preferredTest}
 use Rattle.tree.specs.Entries.{Entry}
-use Rattle.tree.specs.Tables.{Columns, columns}
+use Rattle.tree.specs.inside.Tables.{Columns, columns}
 use Rattle.answer.specs.declared.Answer.{Answer}
 use Rattle.answer.specs.declared.Answer.the-variants.{Yes, No, Undecided, Unknown, Unfinished, Refused}
 use Rattle.answer.specs.Answer.{occurs, forestEntries, nodeCount, warranted, answerOf, answerBy, tests, answer, nodesOf}
 use Rattle.answer.proofs.Answers.{entries-count, answer-nodes-within}
 use Rattle.nodes.specs.declared.Node.{Node}
-use Rattle.nodes.specs.Rows.{rows}
+use Rattle.nodes.specs.inside.Rows.{rows}
 use Rattle.nodes.proofs.Rows.{rows-of}
 use Rattle.calls.specs.Calls.{front, queryVerdict, answeredBy, queried, nodesAfter, nodeOf, zeroed, queryColumn}
 use Rattle.calls.specs.Calls.{queryNodes}
-use Rattle.warrant.specs.Columns.{queryColumns}
+use Rattle.warrant.specs.inside.Columns.{queryColumns}
 use Rattle.calls.proofs.Refusals.{query-accepted}
 use Rattle.warrant.proofs.Calls.{map-replicate}
 

@@ -26,8 +26,8 @@ use Rattle.warrant.specs.Answers.{Answers, NodesAfter}
 
 -- ---- demand 1
 
--- "No image, literal, budget or table length makes a call fault, run on or write past its tables. Nothing is refused except
--- for a listed cause; a refusal hands back its number and changes no lent table." That no call faults or runs on is no
+-- No image, literal, budget or table length makes a call fault, run on or write past its tables. Nothing is refused except
+-- for a listed cause; a refusal hands back its number and changes no lent table. That no call faults or runs on is no
 -- sentence here: of every function of a proved crate it is proved that it is safe and ends.
 pub record Demand-1 : Type 0 where
   -- no call writes past its tables: each keeps its length
@@ -36,7 +36,7 @@ pub record Demand-1 : Type 0 where
       → length (queryArguments image h budget table nodeRoom) ≡ length table
   pub nodes-length : (image : List ℕ) (h budget argumentRoom : ℕ) (table : List Node)
       → length (queryNodes image h budget argumentRoom table) ≡ length table
-  -- a call is accepted where no cause applies, else refused by a listed one that does
+  -- a call is accepted where no cause applies, else refused by the first that does
   pub check-judged : (image : List ℕ) → Judged (ImageCause image) (checkImage image)
   pub list-judged : (image : List ℕ) (room : ℕ) → Judged (ListCause image room) (listVerdict image room)
   pub call-judged : (image : List ℕ) (c : Call) → Judged (QueryCause image (asked c)) (verdictOf image c)
@@ -68,9 +68,9 @@ pub record Demand-1 : Type 0 where
 abbrev pub One : {A : Type 0} → (A → Type 0) → Type 0
 One {A} P = (x : A) × P x × ((y : A) → P y → y ≡ x)
 
--- "Each answer, argument list, node count and marked tree is the one the published definitions give, as document 01 fixes
+-- Each answer, argument list, node count and marked tree is the one the published definitions give, as document 01 fixes
 -- them: UNFINISHED exactly when the trees have more nodes than the budget; within it, YES exactly when some argument for the
--- literal roots a tree marked undefeated."
+-- literal roots a tree marked undefeated.
 pub record Demand-2 : Type 0 where
   -- the published definitions give one argument list, one forest for each literal and one list of its entries, N of them
   pub one-list : (image : List ℕ) → checkImage image ≡ Accepted → One (ArgumentList (programIn image .rules))

@@ -1,4 +1,4 @@
--- The three demands, what an answer has to be, and the query over tables of numbers.
+-- The three demands, and what an answer has to be.
 pub mod Claims
 pub mod Answers
-pub mod Columns
+pub mod inside

@@ -1,9 +1,9 @@
 // The query over four tables of numbers, one for each field of the node entries.
 ghost use mathlib.Core.Path.{_≡_};
 ghost use lib.ListN.{length};
-ghost use Rattle.tree.specs.Tables.{columns, Hold};
+ghost use Rattle.tree.specs.inside.Tables.{columns, Hold};
 ghost use Rattle.calls.specs.Calls.{queried, queryArguments};
-ghost use Rattle.warrant.specs.Columns.{queryColumns};
+ghost use Rattle.warrant.specs.inside.Columns.{queryColumns};
 use answer::Answer;
 use layout::Verdict;
 

@@ -2,7 +2,7 @@
 use mathlib.Core.Path.{subst}
 use lib.ListN.{length}
 use Rattle.advise.specs.declared.Input.{Input}
-use Rattle.advise.specs.Input.{Within}
+use Rattle.advise.specs.inside.Input.{Within}
 use Rattle.io.proofs.Counting.{counts}
 use borrow.Author.Needs.{needs}
 use Rattle.advise.proofs.main.Statement.{statement}

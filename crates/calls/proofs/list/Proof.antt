@@ -1,10 +1,10 @@
--- `list` meets its contract, by what the check and the list answer. Assumes nothing.
+-- `list` meets its contract, by what the check and the list answer.
 use mathlib.Core.Path.{_≡_, sym, _∙_}
 use mathlib.Core.List.{List}
 use Prim.Native.Nat.{ℕ}
 use Rattle.program.specs.Limits.{Limits}
-use Rattle.program.specs.Table.{Holds}
-use Rattle.argument.specs.Closures.{Numbered}
+use Rattle.program.specs.inside.Table.{Holds}
+use Rattle.argument.specs.inside.Closures.{Numbered}
 use Rattle.argument.proofs.Tables.{limits-numbered}
 use Rattle.layout.specs.declared.Verdict.the-variants.{Accepted}
 use Rattle.layout.specs.Reading.{programIn}

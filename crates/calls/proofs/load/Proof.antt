@@ -1,4 +1,4 @@
--- `load` meets its contract: read, then cause 14 by what the strict rules derive. Assumes nothing.
+-- `load` meets its contract: read, then cause 14 by what the strict rules derive.
 use mathlib.Core.Path.{_≡_, refl, sym, ap, ap₂, subst, _∙_}
 use mathlib.Core.Bool.{Bool, true, false}
 use mathlib.Core.List.{List}
@@ -6,7 +6,7 @@ use Prim.Native.Nat.{ℕ}
 use lib.ListN.{length}
 use Rattle.literals.specs.Sets.{clash}
 use Rattle.program.specs.Program.{Rule, Program, Π, Π-mask}
-use Rattle.program.specs.Table.{Holds, Shaped}
+use Rattle.program.specs.inside.Table.{Holds, Shaped}
 use Rattle.derivation.specs.Closure.{closure, contradictory}
 use Rattle.derivation.proofs.Choices.{Π-mask-empty}
 use Rattle.derivation.proofs.Tables.{limits-shaped}

@@ -1,4 +1,4 @@
--- Ends after 128 literals. Assumes nothing.
+-- Ends after 128 literals.
 use Prim.Native.Nat.{_-_}
 use borrow.Author.Needs.{needs}
 use Rattle.catalogue.proofs.each.Statement.{statement}

@@ -1,4 +1,4 @@
--- Ends after the last argument. Assumes nothing.
+-- Ends after the last argument.
 use Prim.Native.Nat.{_-_}
 use borrow.Author.Needs.{needs}
 use Rattle.catalogue.proofs.main.Statement.{statement}

@@ -1,4 +1,4 @@
--- An accepted image fills the table with its program. Assumes nothing.
+-- An accepted image fills the table with its program.
 use mathlib.Core.Path.{_≡_, sym, _∙_}
 use lib.ListN.{length}
 use Rattle.derivation.proofs.Tables.{limits-shaped}

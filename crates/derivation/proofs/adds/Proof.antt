@@ -3,9 +3,9 @@ use mathlib.Core.Path.{ap, _∙_}
 use mathlib.Core.Bool.{not}
 use Prim.Native.Nat.{ℕ}
 use Rattle.literals.specs.Sets.{has, within}
-use Rattle.literals.specs.Words.{setOf}
+use Rattle.literals.specs.inside.Words.{setOf}
 use Rattle.literals.proofs.Tests.{and-passed, and-failed}
-use Rattle.program.specs.Table.{headAt}
+use Rattle.program.specs.inside.Table.{headAt}
 use borrow.Author.Needs.{needs}
 use Rattle.derivation.proofs.adds.Statement.{statement}
 use Rattle.derivation.proofs.adds.Tie as tie

@@ -1,11 +1,11 @@
--- `derivation::any_adds` meets its contract: no rule that is passed adds. Assumes nothing.
+-- `derivation::any_adds` meets its contract: no rule that is passed adds.
 use mathlib.Core.Path.{sym, _∙_}
 use mathlib.Core.Bool.{false≢true}
 use Prim.Native.Nat.{_+_, _<_}
-use Rattle.literals.specs.Words.{setOf}
+use Rattle.literals.specs.inside.Words.{setOf}
 use Rattle.literals.proofs.Members.{minus-less}
 use Rattle.literals.proofs.Within.{within-each}
-use Rattle.program.specs.Table.{ruleCount}
+use Rattle.program.specs.inside.Table.{ruleCount}
 use Rattle.derivation.proofs.Joints.{Sought, sought-all, sought-next, sought-none}
 use native.Mathlib.Omega.{arith}
 use Rattle.derivation.proofs.any_adds.Statement.{statement}

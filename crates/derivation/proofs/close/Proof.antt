@@ -1,12 +1,12 @@
 -- `derivation::close` meets its contract. The invariant: the rounds that are left make of s the closure of the given
--- literals. Assumes nothing.
+-- literals.
 use mathlib.Core.Path.{_≡_, sym, _∙_}
 use native.Mathlib.Omega.{arith}
 use borrow.Author.Needs.{needs}
 use borrow.Author.Tests.{eqb-true, eqb-false}
-use Rattle.literals.specs.Words.{setOf}
+use Rattle.literals.specs.inside.Words.{setOf}
 use Rattle.program.specs.Program.{Program, Π-mask}
-use Rattle.program.specs.Table.{Holds}
+use Rattle.program.specs.inside.Table.{Holds}
 use Rattle.derivation.specs.Closure.{rounds, closure}
 use Rattle.derivation.proofs.Turns.{close-start, close-last, close-turn, close-out}
 use Rattle.derivation.proofs.close.Statement.{statement}

@@ -1,4 +1,4 @@
--- `derivation::excludes` meets its contract. Assumes nothing.
+-- `derivation::excludes` meets its contract.
 use borrow.Author.Needs.{needs}
 use Rattle.derivation.proofs.Turns.{excludes-by}
 use Rattle.derivation.proofs.excludes.Statement.{statement}

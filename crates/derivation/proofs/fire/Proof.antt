@@ -1,4 +1,4 @@
--- `derivation::fire` meets its contract: not chosen, chosen with its body there, chosen without. Assumes nothing.
+-- `derivation::fire` meets its contract: not chosen, chosen with its body there, chosen without.
 use mathlib.Core.Path.{sym, _∙_}
 use borrow.Author.Needs.{needs}
 use Rattle.derivation.proofs.Turns.{row-skipped, row-fired, row-waits}

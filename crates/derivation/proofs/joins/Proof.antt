@@ -1,11 +1,11 @@
--- `derivation::joins` meets its contract. Assumes nothing.
+-- `derivation::joins` meets its contract.
 use mathlib.Core.Path.{ap, ap₂, _∙_}
 use mathlib.Core.Bool.{Bool, not, _&&_}
 use Prim.Native.Nat.{ℕ}
 use lib.Count.{ones}
 use lib.Dec.{eqb, ltb}
 use Rattle.literals.specs.Sets.{has}
-use Rattle.literals.specs.Words.{setOf}
+use Rattle.literals.specs.inside.Words.{setOf}
 use borrow.Author.Needs.{needs}
 use Rattle.derivation.proofs.joins.Statement.{statement}
 use Rattle.derivation.proofs.joins.Tie as tie

@@ -1,13 +1,12 @@
 -- `derivation::round` meets its contract. The invariant: the rules from i on make of s what all rules make of the start.
--- Assumes nothing.
 use mathlib.Core.Path.{_≡_, refl}
 use Prim.Native.Nat.{_≤_, _<_, _-_}
 use native.Mathlib.Omega.{arith}
 use borrow.Author.Needs.{needs}
 use lib.ListN.{length}
-use Rattle.literals.specs.Words.{setOf}
+use Rattle.literals.specs.inside.Words.{setOf}
 use Rattle.program.specs.Program.{Program, Π-mask, defeasiblesFrom}
-use Rattle.program.specs.Table.{Holds}
+use Rattle.program.specs.inside.Table.{Holds}
 use Rattle.derivation.specs.Closure.{round}
 use Rattle.derivation.proofs.Turns.{roundFrom, round-turn, round-end}
 use Rattle.derivation.proofs.round.Statement.{statement}

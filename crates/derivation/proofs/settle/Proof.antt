@@ -1,5 +1,5 @@
--- `derivation::settle` meets its contract: one law for each of its three answers. Assumes nothing.
-use Rattle.literals.specs.Words.{setOf}
+-- `derivation::settle` meets its contract: one law for each of its three answers.
+use Rattle.literals.specs.inside.Words.{setOf}
 use Rattle.derivation.proofs.Joints.{word-rules, settle-closes, settle-stops}
 use borrow.Author.Needs.{needs}
 use Rattle.derivation.proofs.settle.Statement.{statement}

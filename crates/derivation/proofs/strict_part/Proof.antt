@@ -1,8 +1,8 @@
--- `derivation::strict_part` meets its contract: the rules that are passed are sifted. Assumes nothing.
+-- `derivation::strict_part` meets its contract: the rules that are passed are sifted.
 use mathlib.Core.Path.{sym, ap, _∙_}
 use mathlib.Core.Logic.{inl, inr, ⊎-elim}
 use Prim.Native.Nat.{_≤_, _-_}
-use Rattle.literals.specs.Words.{setOf}
+use Rattle.literals.specs.inside.Words.{setOf}
 use Rattle.derivation.proofs.Joints.{Sifted, sifted-none, sifted-next, sifted-all}
 use Rattle.derivation.specs.Closure.{closure}
 use borrow.Author.Needs.{needs}

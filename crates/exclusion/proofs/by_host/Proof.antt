@@ -1,4 +1,4 @@
--- From the contract of the call from C. Assumes nothing.
+-- From the contract of the call from C.
 use mathlib.Core.Path.{ap}
 use Prim.Native.Nat.{ℕ, _/_}
 use lib.Dec.{eqb}

@@ -1,4 +1,4 @@
--- By the answer's cases. Assumes nothing.
+-- By the answer's cases.
 use mathlib.Core.Path.{sym, ap}
 use lib.Dec.{eqb}
 use Rattle.answer.specs.declared.Answer.{Answer}

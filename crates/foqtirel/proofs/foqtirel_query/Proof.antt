@@ -1,5 +1,5 @@
 -- A walk of the call from C: two local tables are made, lent to `query`, and come back; `pack` makes the number. All that is
--- known of the two is that each meets its contract. Assumes nothing.
+-- known of the two is that each meets its contract.
 use mathlib.Core.Path.{_≡_, refl, sym, _∙_, ap, subst}
 use mathlib.Core.List.{List, [], _∷_}
 use Prim.Native.Nat.{ℕ, _<_, _^_}

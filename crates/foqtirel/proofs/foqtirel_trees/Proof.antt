@@ -1,5 +1,5 @@
 -- The export of `query`: the walk is `warrant`'s `Asking.antt`, with `answered` for what looks at the answer. All that is
--- known of the two that are called is that each meets its contract. Assumes nothing.
+-- known of the two that are called is that each meets its contract.
 use mathlib.Core.Path.{_≡_, _∙_, ap}
 use mathlib.Core.List.{List}
 use Prim.Native.Nat.{ℕ}

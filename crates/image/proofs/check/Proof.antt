@@ -1,4 +1,4 @@
--- `check` meets its contract, from the header on. Assumes nothing.
+-- `check` meets its contract, from the header on.
 use mathlib.Core.Path.{_≡_, refl, sym, ap, subst, _∙_}
 use mathlib.Core.Bool.{Bool, true, false, not}
 use mathlib.Core.List.{List}
@@ -6,7 +6,7 @@ use Prim.Native.Nat.{ℕ}
 use borrow.Author.Tests.{not-true, not-false}
 use Rattle.layout.specs.declared.Verdict.the-variants.{Accepted}
 use Rattle.layout.specs.Causes.{badDirectory}
-use Rattle.layout.specs.Steps.{Parts}
+use Rattle.layout.specs.inside.Steps.{Parts}
 use Rattle.layout.proofs.Directory.{directory-parts}
 use Rattle.image.proofs.Whole.{Known, header-refuses, header-known, after-header}
 use borrow.Author.Needs.{needs}

@@ -1,13 +1,13 @@
--- `read` meets its contract: checked first, then filled. Assumes nothing.
+-- `read` meets its contract: checked first, then filled.
 use mathlib.Core.Path.{_≡_, refl, sym, subst, _∙_}
 use mathlib.Core.List.{List}
 use Prim.Native.Nat.{ℕ}
 use lib.ListN.{length}
 use Rattle.program.specs.Program.{Program}
-use Rattle.program.specs.Table.{Holds}
+use Rattle.program.specs.inside.Table.{Holds}
 use Rattle.layout.specs.declared.Verdict.{Verdict}
 use Rattle.layout.specs.declared.Verdict.the-variants.{Accepted, Refused}
-use Rattle.layout.specs.Steps.{Loaded}
+use Rattle.layout.specs.inside.Steps.{Loaded}
 use Rattle.image.proofs.Whole.{header-refuses, header-known}
 use native.Mathlib.Omega.{arith}
 use borrow.Author.Needs.{needs}

@@ -1,14 +1,13 @@
--- `argument::list` meets its contract: the list that is read off the filled table is the list of the arguments. Assumes
--- nothing.
+-- `argument::list` meets its contract: the list that is read off the filled table is the list of the arguments.
 use mathlib.Core.Path.{_≡_, sym, _∙_, subst}
 use mathlib.Core.List.{List}
 use Prim.Native.Nat.{ℕ, _^_}
 use Rattle.program.specs.Program.{Program}
 use Rattle.program.specs.Limits.{Limits}
-use Rattle.program.specs.Table.{Holds}
+use Rattle.program.specs.inside.Table.{Holds}
 use Rattle.argument.specs.List.{argumentList}
-use Rattle.argument.specs.Closures.{Filled}
-use Rattle.listing.specs.Listing.{listIn}
+use Rattle.argument.specs.inside.Closures.{Filled}
+use Rattle.listing.specs.inside.Listing.{listIn}
 use Rattle.argument.proofs.Entries.{room-kept}
 use Rattle.listing.proofs.Readings.{list-read}
 use Rattle.listing.proofs.Listings.{listed-over, kept-over, listed-count, written-list}

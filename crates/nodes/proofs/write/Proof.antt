@@ -1,5 +1,5 @@
 -- A walk of the loop that stores structs into the lent slice. The borrow of the node table is opened once before the loop
--- and closed once after it; in each turn `row` makes the next row of the four tables, and it is stored. Assumes nothing.
+-- and closed once after it; in each turn `row` makes the next row of the four tables, and it is stored.
 use mathlib.Core.Path.{_≡_, refl, sym, _∙_, ap, subst}
 use mathlib.Core.Bool.{Bool, true, false}
 use mathlib.Core.List.{List, [], _∷_}
@@ -53,10 +53,10 @@ use denote.Triple.Walked.{goes-slice, Walks, ends-at, walked, walk-meets}
 use denote.Exit.{yes}
 use borrow.Author.Tests.{lt-ltb, le-ltb}
 use Rattle.lists.proofs.Locals.{var, gets}
-use Rattle.tree.specs.Tables.{Columns, columns, Hold}
+use Rattle.tree.specs.inside.Tables.{Columns, columns, Hold}
 use Rattle.nodes.specs.declared.Node.{Node}
 use Rattle.answer.specs.Tables.{front}
-use Rattle.nodes.specs.Rows.{rowAt, rows}
+use Rattle.nodes.specs.inside.Rows.{rowAt, rows}
 use Rattle.nodes.proofs.Rows.{front-rows-length, front-rows-next}
 use Rattle.nodes.proofs.Node as node
 use Rattle.nodes.proofs.Node.Laws as node-laws

@@ -1,4 +1,4 @@
--- `clear` meets its contract: each turn zeroes one entry more of each table. Assumes nothing.
+-- `clear` meets its contract: each turn zeroes one entry more of each table.
 use mathlib.Core.Path.{_≡_, refl}
 use mathlib.Core.List.{List}
 use Prim.Native.Nat.{ℕ, _-_, _≤_, _<_}

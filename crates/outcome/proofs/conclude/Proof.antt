@@ -1,4 +1,4 @@
--- `conclude` meets its contract, answer by answer. Assumes nothing.
+-- `conclude` meets its contract, answer by answer.
 use mathlib.Core.Path.{refl, sym, ap, _∙_}
 use mathlib.Core.Bool.{true, false}
 use native.Mathlib.Omega.{arith}

@@ -1,4 +1,4 @@
--- The number of an answer, by its cases: each fact is the answer's own packed. Assumes nothing.
+-- The number of an answer, by its cases: each fact is the answer's own packed.
 use mathlib.Core.Path.{ap}
 use native.Mathlib.Omega.{arith}
 use Rattle.calls.specs.Calls.{packed}

@@ -1,5 +1,5 @@
 -- `preference::beats_some` meets its contract: the bits that are left beat a rule of z exactly if those of x do, and each
--- turn takes one of them away. Assumes nothing.
+-- turn takes one of them away.
 use mathlib.Core.Path.{_≡_, refl, sym, ap, _∙_}
 use mathlib.Core.Bool.{Bool, true, not}
 use mathlib.Core.List.{List}
@@ -11,7 +11,7 @@ use Rattle.literals.specs.Sets.{has, minus}
 use Rattle.literals.proofs.Members.{has-bound, minus-less}
 use Rattle.program.specs.Program.{Program}
 use Rattle.program.specs.Limits.{Limits, Mask}
-use Rattle.program.specs.Table.{Holds, beatenAt}
+use Rattle.program.specs.inside.Table.{Holds, beatenAt}
 use Rattle.preference.specs.Preference.{beatsSome}
 use Rattle.preference.proofs.Preferences.{beats-some-none, beats-some-met, beats-some-rest}
 use Rattle.preference.proofs.beats_some.Statement.{statement}

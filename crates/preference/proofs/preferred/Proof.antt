@@ -1,4 +1,4 @@
--- `preference::preferred` meets its contract: the second test is made only where the first passes. Assumes nothing.
+-- `preference::preferred` meets its contract: the second test is made only where the first passes.
 use mathlib.Core.Path.{_≡_, sym, ap, _∙_}
 use mathlib.Core.Bool.{Bool, true, false, not, _&&_}
 use borrow.Author.Needs.{needs}

@@ -1,4 +1,4 @@
--- `large` meets its contract: a table for 16 rules has room, and the call of itself falls in its number. Assumes nothing.
+-- `large` meets its contract: a table for 16 rules has room, and the call of itself falls in its number.
 use mathlib.Core.Path.{_≡_, refl, sym, ap, _∙_}
 use mathlib.Core.Bool.{Bool, true, false}
 use mathlib.Core.List.{List, _++_}
@@ -9,11 +9,11 @@ use borrow.Author.Needs.{needs}
 use Rattle.literals.specs.Sets.{choose}
 use Rattle.program.specs.Program.{Program}
 use Rattle.program.specs.Limits.{Limits}
-use Rattle.program.specs.Table.{Holds}
+use Rattle.program.specs.inside.Table.{Holds}
 use Rattle.listing.specs.declared.Listed.{Listed}
 use Rattle.listing.specs.declared.Listed.the-variants.{Count, Over}
 use Rattle.argument.specs.List.{argumentList}
-use Rattle.listing.specs.Listing.{listed, withList, Lists}
+use Rattle.listing.specs.inside.Listing.{listed, withList, Lists}
 use Rattle.argument.proofs.Tables.{room-upto}
 use Prim.Native.Nat.{ℕ, _<_}
 use borrow.Fn.Kinds.{In}

@@ -1,4 +1,4 @@
--- A table for 8 rules has room. Assumes nothing.
+-- A table for 8 rules has room.
 use native.Mathlib.Omega.{arith}
 use borrow.Author.Needs.{needs}
 use Rattle.argument.proofs.Tables.{room-upto}

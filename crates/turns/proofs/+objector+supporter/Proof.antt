@@ -1,5 +1,5 @@
 -- Supporter and objector: each step is a `Turn` at its loop, and what holds of one holds of the other, so the invariant, the
--- measure and what is known of the calls are stated once. The measure is the budget that is left. Assumes nothing.
+-- measure and what is known of the calls are stated once. The measure is the budget that is left.
 use mathlib.Core.Path.{refl, ap, _∙_}
 use Prim.Native.Nat.{ℕ, _-_, _<_}
 use native.Mathlib.Omega.{arith}
@@ -8,7 +8,7 @@ use borrow.Fn.Kinds.{In}
 use borrow.Fn.PlainCycle.{Measures, is, falls, and}
 use lib.ListN.{length-set}
 use Rattle.literals.specs.Sets.{union}
-use Rattle.tree.specs.Tables.{columns}
+use Rattle.tree.specs.inside.Tables.{columns}
 use Rattle.tree.proofs.Turn.{Turn, turn-none, turn-enters, turn-start, turn-asked, turn-marks, turn-end, turn-ready, turn-over, turn-mark, turn-index, turn-less, turn-step}
 use Rattle.turns.proofs.+objector+supporter.Lts-objector as objector-lts
 use Rattle.turns.proofs.supporter.Reads as supporter

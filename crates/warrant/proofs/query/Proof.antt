@@ -1,6 +1,6 @@
 -- A walk of `query`: four local tables are made and lent to `columns::query`, come back, and are lent to `write`, which
 -- stores as many rows as `count` says. All that is known of the three is that each meets its contract. The two tables
--- that the caller lent are given up for good, `arguments` to `columns::query` and `nodes` to `write`. Assumes nothing.
+-- that the caller lent are given up for good, `arguments` to `columns::query` and `nodes` to `write`.
 use mathlib.Core.Path.{_≡_, refl, sym, _∙_, ap, subst}
 use mathlib.Core.List.{List, [], _∷_}
 use Prim.Native.Nat.{ℕ, _<_, _≤_, _^_}
@@ -43,15 +43,15 @@ use denote.Triple.Table.{entered, cited}
 use denote.Triple.Walked.{says}
 use Rattle.lists.proofs.Locals.{var, gets, slices, sliced, frees-cell}
 use Rattle.lists.proofs.LocalArrays.{number-element, tableAt, makes-array, lends-mut, comes-back, lends-shared, frees-shared}
-use Rattle.tree.specs.Tables.{Columns, columns, Hold}
+use Rattle.tree.specs.inside.Tables.{Columns, columns, Hold}
 use Rattle.answer.specs.declared.Answer.{Answer}
 use Rattle.answer.specs.Answer.{nodesOf}
 use Rattle.answer.proofs.Answer as answer
 use Rattle.answer.proofs.Answer.Laws as answer-laws
 use Rattle.nodes.specs.declared.Node.{Node}
 use Rattle.calls.specs.Calls.{front, queried, queryArguments, queryNodes}
-use Rattle.warrant.specs.Columns.{queryColumns}
-use Rattle.nodes.specs.Rows.{rows}
+use Rattle.warrant.specs.inside.Columns.{queryColumns}
+use Rattle.nodes.specs.inside.Rows.{rows}
 use Rattle.warrant.proofs.Rows.{query-nodes-within, query-rows}
 use Rattle.warrant.proofs.Asking.{Words, Nodes, Asked, v, lent, OI, OA, ON, lfts, shares, five, vals, Query-says, Looks}
 use Rattle.warrant.proofs.Asking.{to-looks, goes-looks, looks-back, looks-said, Left, exits, walk-asks}

@@ -1,8 +1,8 @@
--- `closures::applies` meets its contract. Assumes nothing.
+-- `closures::applies` meets its contract.
 use mathlib.Core.Path.{ap, ap₂, _∙_}
 use mathlib.Core.Bool.{Bool, not, _&&_}
 use Prim.Native.Nat.{ℕ}
-use Rattle.literals.specs.Words.{setOf}
+use Rattle.literals.specs.inside.Words.{setOf}
 use Rattle.literals.specs.Sets.{within}
 use borrow.Author.Needs.{needs}
 use Rattle.argument.proofs.closures.applies.Statement.{statement}

@@ -1,4 +1,4 @@
--- `closures::contradictory` meets its contract. Assumes nothing.
+-- `closures::contradictory` meets its contract.
 use mathlib.Core.Path.{ap, _∙_}
 use Rattle.literals.specs.Sets.{clash}
 use borrow.Author.Needs.{needs}

@@ -1,13 +1,13 @@
 -- `closures::derive` meets its contract: while rules are left, what is begun is derived with the mask, and the heads of the
--- others are there. Assumes nothing.
+-- others are there.
 use mathlib.Core.Path.{sym, _∙_}
 use mathlib.Core.List.{List}
 use Prim.Native.Nat.{ℕ, _^_, _<_}
 use borrow.Author.Tests.{not-true, not-false}
 use Rattle.literals.specs.Sets.{minus}
-use Rattle.literals.specs.Words.{setOf}
+use Rattle.literals.specs.inside.Words.{setOf}
 use Rattle.literals.proofs.Members.{minus-less}
-use Rattle.program.specs.Table.{ruleOfBit, ruleCount, bitCount}
+use Rattle.program.specs.inside.Table.{ruleOfBit, ruleCount, bitCount}
 use Rattle.argument.proofs.Entries.{mask-small}
 use Rattle.argument.proofs.Fills.{Left, left-all, left-settled, left-closed, turn-bit, turn-less, turn-rule, turn-copy, turn-next}
 use borrow.Author.Needs.{needs}

@@ -1,9 +1,9 @@
--- `closures::fill` meets its contract: the masks that are passed have their entries. Assumes nothing.
+-- `closures::fill` meets its contract: the masks that are passed have their entries.
 use mathlib.Core.Path.{ap}
 use Prim.Native.Nat.{ℕ, _≤_, _<_, _-_, _+_, _*_, _^_}
 use lib.ListN.{length}
-use Rattle.literals.specs.Words.{setOf}
-use Rattle.program.specs.Table.{bitCount}
+use Rattle.literals.specs.inside.Words.{setOf}
+use Rattle.program.specs.inside.Table.{bitCount}
 use Rattle.argument.proofs.Fills.{Filling, filling-none, filling-more}
 use borrow.Author.Needs.{needs}
 use native.Mathlib.Omega.{arith}

@@ -1,4 +1,4 @@
--- `closures::mask_count` meets its contract: a shift by at most 16. Assumes nothing.
+-- `closures::mask_count` meets its contract: a shift by at most 16.
 use lib.Pow.{pow-mono}
 use Rattle.literals.proofs.Words.{shifted-one}
 use native.Mathlib.Omega.{arith}

@@ -1,4 +1,4 @@
--- `decide` meets its contract. Assumes nothing.
+-- `decide` meets its contract.
 use borrow.Author.Tests.{not-true, not-false}
 use Rattle.derivation.proofs.Tables.{limits-shaped}
 use Rattle.tree.proofs.Turn.{Long, hold-long}

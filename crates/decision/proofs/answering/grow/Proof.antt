@@ -1,4 +1,4 @@
--- `grow` meets its contract: the tables that the forest is built from hold the program. Assumes nothing.
+-- `grow` meets its contract: the tables that the forest is built from hold the program.
 use mathlib.Core.Path.{refl}
 use native.Mathlib.Omega.{arith}
 use Rattle.derivation.proofs.Tables.{limits-shaped}

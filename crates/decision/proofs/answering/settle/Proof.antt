@@ -1,7 +1,7 @@
--- `settle` meets its contract: the list, then the answer. Assumes nothing.
+-- `settle` meets its contract: the list, then the answer.
 use mathlib.Core.Path.{sym, _∙_}
 use Rattle.argument.proofs.Tables.{limits-numbered}
-use Rattle.decision.specs.Steps.{Held}
+use Rattle.decision.specs.inside.Steps.{Held}
 use Rattle.decision.proofs.Settlements.{listing, settled-listed, settled-over}
 use borrow.Author.Needs.{needs}
 use Rattle.decision.proofs.answering.settle.Statement.{statement}

@@ -1,5 +1,4 @@
 -- `occurs` meets its contract. The invariant: the atom stands in some rule exactly if it stands in one of those from here on.
--- Assumes nothing.
 use mathlib.Core.Path.{_≡_, sym, ap, _∙_}
 use mathlib.Core.Bool.{Bool, true, false}
 use Prim.Native.Nat.{_-_, _≤_, _<_}
@@ -7,7 +6,7 @@ use lib.ListN.{length}
 use native.Mathlib.Omega.{arith}
 use borrow.Author.Needs.{needs}
 use Rattle.program.specs.Program.{Program, bitOf, ruleAt}
-use Rattle.program.specs.Table.{Holds}
+use Rattle.program.specs.inside.Table.{Holds}
 use Rattle.answer.specs.Answer.{occurs}
 use Rattle.decision.proofs.Occurrences.{occursFrom, occurs-start, occurs-here, occurs-later, occurs-nowhere}
 use Rattle.decision.proofs.occurrence.occurs.Statement.{statement}

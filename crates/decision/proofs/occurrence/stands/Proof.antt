@@ -1,4 +1,4 @@
--- `stands` meets its contract: by the head, then by the two literals of the atom in the body. Assumes nothing.
+-- `stands` meets its contract: by the head, then by the two literals of the atom in the body.
 use borrow.Author.Needs.{needs}
 use Rattle.decision.proofs.Occurrences.{head-stands, plain-stands, negated-stands}
 use Rattle.decision.proofs.occurrence.stands.Statement.{statement}

@@ -1,4 +1,4 @@
--- `large` meets its contract: a table for 16 rules has room, and no call takes the branch. Assumes nothing.
+-- `large` meets its contract: a table for 16 rules has room, and no call takes the branch.
 use native.Mathlib.Omega.{arith}
 use borrow.Author.Needs.{needs}
 use Rattle.decision.proofs.Settlements.{room-for, held-few}

@@ -1,4 +1,4 @@
--- A table for 12 rules has room. Assumes nothing.
+-- A table for 12 rules has room.
 use native.Mathlib.Omega.{arith}
 use Rattle.decision.proofs.Settlements.{room-for}
 use borrow.Author.Needs.{needs}

@@ -1,4 +1,4 @@
--- `query` meets its contract, by the size of the closure table. Assumes nothing.
+-- `query` meets its contract, by the size of the closure table.
 use native.Mathlib.Omega.{arith}
 use Rattle.decision.proofs.Settlements.{held-few}
 use borrow.Author.Needs.{needs}

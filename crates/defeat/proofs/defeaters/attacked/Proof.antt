@@ -1,9 +1,9 @@
--- `defeaters::attacked` meets its contract: the literal is looked at only where the mask is within y. Assumes nothing.
+-- `defeaters::attacked` meets its contract: the literal is looked at only where the mask is within y.
 use mathlib.Core.Path.{ap, _∙_}
 use Prim.Native.Nat.{ℕ}
 use borrow.Author.Needs.{needs}
 use Rattle.literals.specs.Sets.{has, within}
-use Rattle.literals.specs.Words.{setOf}
+use Rattle.literals.specs.inside.Words.{setOf}
 use Rattle.literals.proofs.Tests.{and-passed, and-failed}
 use Rattle.argument.specs.Argument.{literalOf}
 use Rattle.defeat.proofs.defeaters.attacked.Statement.{statement}

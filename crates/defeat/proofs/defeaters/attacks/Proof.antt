@@ -1,9 +1,8 @@
 -- `defeaters::attacks` meets its contract: the two entries are the row of x's literal and what y's mask derives.
--- Assumes nothing.
 use mathlib.Core.Path.{ap, ap₂, _∙_}
 use Rattle.literals.specs.Sets.{meets}
-use Rattle.argument.specs.Closures.{closureAt}
-use Rattle.defeat.specs.Exclusions.{excludedBy}
+use Rattle.argument.specs.inside.Closures.{closureAt}
+use Rattle.defeat.specs.inside.Exclusions.{excludedBy}
 use borrow.Author.Needs.{needs}
 use Rattle.defeat.proofs.defeaters.attacks.Statement.{statement}
 use Rattle.defeat.proofs.defeaters.attacks.Tie as tie

@@ -1,9 +1,9 @@
 -- `defeaters::kind` meets its contract: without a rule x attacks nothing, and otherwise the search by x's row is the
--- defined one. Assumes nothing.
+-- defined one.
 use mathlib.Core.Path.{sym, ap, _∙_}
 use Rattle.program.specs.Limits.{Mask}
 use Rattle.preference.specs.Preference.{preferredTest}
-use Rattle.defeat.specs.Exclusions.{excludedBy}
+use Rattle.defeat.specs.inside.Exclusions.{excludedBy}
 use Rattle.defeat.proofs.Attacks.{listed-mask, kind-strict, kind-weighed}
 use borrow.Author.Needs.{needs}
 use Rattle.defeat.proofs.defeaters.kind.Statement.{statement}

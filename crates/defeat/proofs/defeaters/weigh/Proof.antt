@@ -1,5 +1,5 @@
 -- `defeaters::weigh` meets its contract: what the arguments that are left say, with what was found before them, is what
--- the whole list says. Assumes nothing.
+-- the whole list says.
 use mathlib.Core.Path.{_≡_, sym, ap, _∙_}
 use mathlib.Core.Bool.{Bool, true, false}
 use mathlib.Core.List.{List, _∷_}
@@ -9,14 +9,14 @@ use lib.ListN.{length, getD, take, drop, drop-of-length-le}
 use lib.Seq.{length-take-le}
 use borrow.Author.Tests.{not-true, not-false}
 use borrow.Author.Needs.{needs}
-use Rattle.literals.specs.Words.{setOf}
+use Rattle.literals.specs.inside.Words.{setOf}
 use Rattle.program.specs.Program.{Program}
 use Rattle.program.specs.Limits.{Limits, Mask}
-use Rattle.program.specs.Table.{Holds}
+use Rattle.program.specs.inside.Table.{Holds}
 use Rattle.argument.specs.Argument.{maskOf}
 use Rattle.argument.specs.List.{argumentList}
 use Rattle.preference.specs.Preference.{preferredTest}
-use Rattle.defeat.specs.Steps.{attackedBy, kindAmong}
+use Rattle.defeat.specs.inside.Steps.{attackedBy, kindAmong}
 use Rattle.defeat.proofs.Weighing.{kindLeft, left-start, left-none, left-skip, left-proper, left-under, left-neither}
 use Rattle.defeat.proofs.Attacks.{listed-mask, entry-listed, entry-first, entry-past}
 use Rattle.defeat.proofs.defeaters.weigh.Statement.{statement}

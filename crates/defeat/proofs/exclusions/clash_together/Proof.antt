@@ -1,7 +1,7 @@
 -- `exclusions::clash_together` meets its contract.
 use mathlib.Core.Path.{sym, _∙_}
 use borrow.Author.Tests.{eqb-true}
-use Rattle.literals.specs.Words.{setOf}
+use Rattle.literals.specs.inside.Words.{setOf}
 use Rattle.defeat.proofs.Rows.{together-clash, together-same, together-parted, together-settled}
 use borrow.Author.Needs.{needs}
 use Rattle.defeat.proofs.exclusions.clash_together.Statement.{statement}

@@ -1,8 +1,8 @@
--- `exclusions::conclusions` meets its contract: the literals of the arguments that are passed are found. Assumes nothing.
+-- `exclusions::conclusions` meets its contract: the literals of the arguments that are passed are found.
 use Prim.Native.Nat.{_-_}
 use native.Mathlib.Omega.{arith}
 use borrow.Author.Needs.{needs}
-use Rattle.literals.specs.Words.{setOf}
+use Rattle.literals.specs.inside.Words.{setOf}
 use Rattle.defeat.proofs.Rows.{Looked, looked-skip, looked-more, looked-all}
 use Rattle.defeat.proofs.exclusions.conclusions.Statement.{statement}
 use Rattle.defeat.proofs.exclusions.conclusions.Tie as tie

@@ -3,7 +3,7 @@ use mathlib.Core.Path.{sym, ap, _∙_}
 use native.Mathlib.Nat.{le-refl}
 use native.Mathlib.Omega.{arith}
 use borrow.Author.Tests.{not-true, not-false}
-use Rattle.literals.specs.Words.{setOf}
+use Rattle.literals.specs.inside.Words.{setOf}
 use Rattle.derivation.specs.Closure.{closure}
 use Rattle.program.specs.Program.{Π}
 use Rattle.defeat.proofs.Rows.{pair-outside, pair-before, pair-closed, pair-after}

@@ -3,7 +3,7 @@ use mathlib.Core.Path.{sym, _∙_}
 use Prim.Native.Nat.{_-_}
 use native.Mathlib.Omega.{arith}
 use borrow.Author.Tests.{not-true, not-false}
-use Rattle.literals.specs.Words.{setOf}
+use Rattle.literals.specs.inside.Words.{setOf}
 use Rattle.literals.proofs.Words.{joined-below}
 use Rattle.defeat.proofs.Rows.{Rowing, rowing-none, rowing-skip, rowing-more, rowing-all}
 use borrow.Author.Needs.{needs}

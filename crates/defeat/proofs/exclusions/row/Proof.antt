@@ -4,12 +4,12 @@ use mathlib.Core.Bool.{true}
 use Prim.Native.Nat.{_-_}
 use borrow.Author.Tests.{not-true, not-false}
 use Rattle.literals.specs.Sets.{has}
-use Rattle.literals.specs.Words.{setOf}
+use Rattle.literals.specs.inside.Words.{setOf}
 use Rattle.literals.proofs.Words.{joined-below}
 use Rattle.program.specs.Program.{Program}
-use Rattle.program.specs.Table.{Holds}
-use Rattle.derivation.specs.Parts.{StrictOf}
-use Rattle.defeat.specs.Steps.{Underway}
+use Rattle.program.specs.inside.Table.{Holds}
+use Rattle.derivation.specs.inside.Parts.{StrictOf}
+use Rattle.defeat.specs.inside.Steps.{Underway}
 use Rattle.defeat.proofs.Rows.{Upto, upto-none, upto-skip, upto-more, rowTest, row-all}
 use borrow.Author.Needs.{needs}
 use Rattle.defeat.proofs.exclusions.row.Statement.{statement}

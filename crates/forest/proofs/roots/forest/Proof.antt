@@ -1,6 +1,6 @@
 -- The trees for the literal, then those for its complement.
 use mathlib.Core.Path.{_∙_}
-use Rattle.tree.specs.Steps.{testsIn}
+use Rattle.tree.specs.inside.Steps.{testsIn}
 use Rattle.tree.proofs.Trees.{forest-over, forest-end}
 use Rattle.tree.proofs.RootTurn.{roots-moved}
 use Rattle.forest.proofs.roots.forest.Statement.{statement}

@@ -2,7 +2,7 @@
 use mathlib.Core.Path.{_∙_}
 use Prim.Native.Nat.{_-_}
 use native.Mathlib.Omega.{arith}
-use Rattle.tree.specs.Tables.{columns}
+use Rattle.tree.specs.inside.Tables.{columns}
 use Rattle.tree.proofs.RootTurn.{RootTurn, root-turn-start, root-turn-end, root-ready, root-turn-over, root-turn-mark, root-turn-index, root-turn-less, root-turn-step}
 use borrow.Author.Needs.{needs}
 use Rattle.forest.proofs.roots.trees.Statement.{statement}

@@ -1,4 +1,4 @@
--- `all` meets its contract: rules, masks, counts. Assumes nothing.
+-- `all` meets its contract: rules, masks, counts.
 use mathlib.Core.Path.{_∙_}
 use Rattle.image.proofs.Beaten.{filled-holds}
 use borrow.Author.Needs.{needs}

@@ -1,4 +1,4 @@
--- What is left from pair j on completes the mask. Assumes nothing.
+-- What is left from pair j on completes the mask.
 use mathlib.Core.Path.{_≡_, refl, sym, ap, _∙_}
 use mathlib.Core.List.{List}
 use Prim.Native.Nat.{ℕ, _+_, _-_, _*_, _^_, _<_, _≤_}
@@ -10,7 +10,7 @@ use Rattle.literals.proofs.Members.{insert-union}
 use Rattle.program.specs.Program.{Rule, bitOf, beatenFrom}
 use Rattle.layout.specs.Layout.{rulesOf, partOf}
 use Rattle.layout.specs.Reading.{pairsIn}
-use Rattle.layout.specs.Steps.{BitsAt}
+use Rattle.layout.specs.inside.Steps.{BitsAt}
 use Rattle.image.proofs.Readings.{beaten-other, beaten-one, beaten-end}
 use borrow.Author.Needs.{needs}
 use native.Mathlib.Omega.{arith}

@@ -1,10 +1,10 @@
--- What is left from byte k on completes the set. Assumes nothing.
+-- What is left from byte k on completes the set.
 use mathlib.Core.Path.{_≡_, refl, sym, ap, _∙_}
 use mathlib.Core.Bool.{true}
 use Prim.Native.Nat.{ℕ, _+_, _-_, _<_, _≤_}
 use lib.ListN.{length, drop}
 use Rattle.literals.specs.Sets.{insert, insertAll}
-use Rattle.literals.specs.Words.{setOf}
+use Rattle.literals.specs.inside.Words.{setOf}
 use Rattle.layout.specs.Causes.{allBelow}
 use Rattle.layout.proofs.Bytes.{below-here, below-after, insert-next, insert-none}
 use borrow.Author.Needs.{needs}

@@ -1,4 +1,4 @@
--- Rule by rule, each with the mask of those it beats. Assumes nothing.
+-- Rule by rule, each with the mask of those it beats.
 use mathlib.Core.Path.{_≡_, refl, sym, ap, subst, _∙_}
 use mathlib.Core.Bool.{Bool, true, false}
 use mathlib.Core.List.{List}
@@ -9,13 +9,13 @@ use lib.ListN.{length, length-set}
 use lib.Dec.{eqb}
 use borrow.Author.Tests.{not-true, not-false}
 use Rattle.program.specs.Program.{Kind, Rule, nextBit, defeasiblesFrom, bitOf, beatenFrom}
-use Rattle.program.specs.Store.{withBeaten}
-use Rattle.program.specs.Filling.{RowsTo, BeatenTo}
+use Rattle.program.specs.inside.Store.{withBeaten}
+use Rattle.program.specs.inside.Filling.{RowsTo, BeatenTo}
 use Rattle.layout.specs.declared.Verdict.the-variants.{Accepted}
 use Rattle.layout.specs.Layout.{rulesOf, pairsOf, partOf, kindByte}
 use Rattle.layout.specs.Causes.{verdict}
 use Rattle.layout.specs.Reading.{ruleIn, rulesIn, pairsIn, programIn}
-use Rattle.layout.specs.Steps.{Named, BitsAt}
+use Rattle.layout.specs.inside.Steps.{Named, BitsAt}
 use Rattle.layout.proofs.Parts.{parts-fewer, located-order, located-inside, located-part}
 use Rattle.image.proofs.EachRule.{kind-defeasible, kind-strict}
 use Rattle.image.proofs.Accepted.{Sound, accepted-sound, Fillable, accepted-fillable}

@@ -1,4 +1,4 @@
--- `store_rule` meets its contract, by the kind of the rule. Assumes nothing.
+-- `store_rule` meets its contract, by the kind of the rule.
 use mathlib.Core.Path.{_≡_, refl, sym, ap, subst, _∙_}
 use mathlib.Core.List.{List}
 use Prim.Native.Nat.{ℕ, _+_, _*_, _%_, _^_, _<_}
@@ -6,11 +6,11 @@ use native.Mathlib.Numerals.{add-one}
 use lib.ListN.{length, length-set}
 use Rattle.literals.specs.declared.LiteralSet.{LiteralSet}
 use Rattle.literals.specs.Sets.{insertAll}
-use Rattle.literals.specs.Words.{setOf}
+use Rattle.literals.specs.inside.Words.{setOf}
 use Rattle.literals.proofs.Words.{shifted-one}
 use Rattle.program.specs.Program.{Rule, Kind, strict, defeasible, nextBit}
-use Rattle.program.specs.Store.{withRow, withBit}
-use Rattle.program.specs.Filling.{Stored}
+use Rattle.program.specs.inside.Store.{withRow, withBit}
+use Rattle.program.specs.inside.Filling.{Stored}
 use Rattle.program.proofs.Stores.{row-length}
 use Rattle.program.proofs.Fillings.{stored-strict, stored-defeasible}
 use Rattle.layout.specs.Reading.{ruleIn}

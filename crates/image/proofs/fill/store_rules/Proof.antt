@@ -1,4 +1,4 @@
--- Rule by rule, each with its bit. Assumes nothing.
+-- Rule by rule, each with its bit.
 use mathlib.Core.Path.{_≡_, refl, sym, ap, subst, _∙_}
 use mathlib.Core.List.{List}
 use Prim.Native.Nat.{ℕ, suc, _+_, _-_, _<_, _≤_}
@@ -6,7 +6,7 @@ use native.Mathlib.Numerals.{add-one}
 use lib.ListN.{length}
 use lib.Dec.{eqb}
 use Rattle.program.specs.Program.{Rule, nextBit, defeasiblesFrom, bitOf, ruleAt}
-use Rattle.program.specs.Filling.{Stored, RowsTo}
+use Rattle.program.specs.inside.Filling.{Stored, RowsTo}
 use Rattle.program.proofs.Fillings.{rows-more}
 use Rattle.layout.specs.Layout.{partOf, kindByte, bodyBytes}
 use Rattle.layout.specs.Causes.{allBelow}

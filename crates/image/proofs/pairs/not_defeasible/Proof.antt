@@ -1,4 +1,4 @@
--- `not_defeasible` meets its contract, by whether the rule is there. Assumes nothing.
+-- `not_defeasible` meets its contract, by whether the rule is there.
 use mathlib.Core.Path.{_≡_, refl, sym, ap, _∙_}
 use mathlib.Core.Bool.{Bool, not}
 use mathlib.Core.List.{List}

@@ -1,4 +1,4 @@
--- `pair` meets its contract, test by test. Assumes nothing.
+-- `pair` meets its contract, test by test.
 use mathlib.Core.Path.{_≡_, refl, sym, ap, ap₂, _∙_}
 use mathlib.Core.Bool.{Bool, true, false}
 use mathlib.Core.List.{List}

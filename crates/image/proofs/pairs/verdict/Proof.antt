@@ -1,4 +1,4 @@
--- What is left from pair j on decides the whole. Assumes nothing.
+-- What is left from pair j on decides the whole.
 use mathlib.Core.Path.{_≡_, refl, sym, ap, _∙_}
 use mathlib.Core.Bool.{Bool, true, false}
 use mathlib.Core.List.{List}

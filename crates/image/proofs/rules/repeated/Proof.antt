@@ -1,4 +1,4 @@
--- What is left from part j on decides the whole. Assumes nothing.
+-- What is left from part j on decides the whole.
 use mathlib.Core.Path.{_≡_, refl, sym, ap, _∙_}
 use mathlib.Core.List.{List}
 use native.Mathlib.Nat.{sub-zero}

@@ -1,4 +1,4 @@
--- `rule` meets its contract: causes 4 to 9 within the part, then 10. Assumes nothing.
+-- `rule` meets its contract: causes 4 to 9 within the part, then 10.
 use mathlib.Core.Path.{_≡_, refl, sym, ap, ap₂, _∙_}
 use mathlib.Core.Bool.{Bool, true, false}
 use mathlib.Core.List.{List}

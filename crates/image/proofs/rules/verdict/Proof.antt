@@ -1,4 +1,4 @@
--- What is left from rule i on decides the whole; the cursor stands at its directory entry. Assumes nothing.
+-- What is left from rule i on decides the whole; the cursor stands at its directory entry.
 use mathlib.Core.Path.{_≡_, refl, sym, ap, _∙_}
 use mathlib.Core.List.{List}
 use Prim.Native.Nat.{ℕ, _+_, _-_, _*_, _<_, _≤_}
@@ -6,7 +6,7 @@ use native.Mathlib.Nat.{sub-zero, le-refl}
 use Rattle.layout.specs.declared.Verdict.the-variants.{Accepted, Refused}
 use Rattle.layout.specs.Layout.{partOf, kindByte}
 use Rattle.layout.specs.Causes.{countKind, rulesVerdict}
-use Rattle.layout.specs.Steps.{Located}
+use Rattle.layout.specs.inside.Steps.{Located}
 use Rattle.layout.proofs.Cursors.{entry-is}
 use Rattle.layout.proofs.Parts.{parts-fewer, entry-there, entry-locates, located-inside, located-part}
 use Rattle.image.proofs.EachRule.{count-le, rules-next, rules-end}

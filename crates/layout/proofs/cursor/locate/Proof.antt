@@ -1,4 +1,4 @@
--- `locate` meets its contract: the entry is there, and says where the part lies. Assumes nothing.
+-- `locate` meets its contract: the entry is there, and says where the part lies.
 use Rattle.layout.proofs.Parts.{entry-there, entry-locates}
 use borrow.Author.Needs.{needs}
 use Rattle.layout.proofs.cursor.locate.Statement.{statement}

@@ -1,4 +1,4 @@
--- `directory_sound` meets its contract. Assumes nothing.
+-- `directory_sound` meets its contract.
 use Rattle.layout.proofs.Directory.{directory-short, directory-by}
 use mathlib.Core.Path.{_∙_}
 use native.Mathlib.Omega.{arith}

@@ -1,4 +1,4 @@
--- What is left from entry i on decides the whole. Assumes nothing.
+-- What is left from entry i on decides the whole.
 use mathlib.Core.Path.{_≡_, refl, sym, ap, _∙_}
 use mathlib.Core.Bool.{Bool}
 use Prim.Native.Nat.{ℕ, _+_, _-_, _*_, _<_, _≤_}

@@ -1,11 +1,11 @@
--- `read` meets its contract: four numbers, one after the other, are the counts and the zero. Assumes nothing.
+-- `read` meets its contract: four numbers, one after the other, are the counts and the zero.
 use mathlib.Core.Path.{_≡_, sym, ap, _∙_}
 use mathlib.Core.List.{List}
 use Prim.Native.Nat.{ℕ, _+_, _<_, _≤_}
 use lib.ListN.{length}
 use Rattle.layout.specs.declared.cursor.Cursor.{Cursor}
 use Rattle.layout.specs.Layout.{numberAt}
-use Rattle.layout.specs.Steps.{headerWith, headerOf}
+use Rattle.layout.specs.inside.Steps.{headerWith, headerOf}
 use Rattle.layout.proofs.Cursors.{Number-is, number-ended, number-is}
 use Rattle.layout.proofs.Directory.{header-short, header-long, header-fields}
 use native.Mathlib.Omega.{arith}

@@ -1,4 +1,4 @@
--- One test after the other. Assumes nothing.
+-- One test after the other.
 use borrow.Author.Tests.{lt-ltb, le-ltb, eq-eqb, ne-eqb}
 use Rattle.layout.proofs.header.within_limits.Statement.{statement}
 use Rattle.layout.proofs.header.within_limits.Tie as tie

@@ -1,4 +1,4 @@
--- `counted` meets its contract, by the kind byte. Assumes nothing.
+-- `counted` meets its contract, by the kind byte.
 use mathlib.Core.Path.{_≡_, refl, sym, ap, _∙_}
 use mathlib.Core.Bool.{Bool}
 use Prim.Native.Nat.{ℕ, suc}

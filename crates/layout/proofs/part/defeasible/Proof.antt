@@ -1,4 +1,4 @@
--- `defeasible` meets its contract; an empty part has no kind. Assumes nothing.
+-- `defeasible` meets its contract; an empty part has no kind.
 use mathlib.Core.Path.{_≡_, refl}
 use Prim.Native.Nat.{_≤_}
 use lib.ListN.{length, List·getD-eq-default}

@@ -1,4 +1,4 @@
--- `examine` meets its contract: one law for each answer. Assumes nothing.
+-- `examine` meets its contract: one law for each answer.
 use mathlib.Core.Path.{_≡_, sym, _∙_}
 use mathlib.Core.Bool.{true, false}
 use borrow.Author.Tests.{not-true, not-false}

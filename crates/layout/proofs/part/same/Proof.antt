@@ -1,4 +1,4 @@
--- What is left from byte k on decides the whole. Assumes nothing.
+-- What is left from byte k on decides the whole.
 use mathlib.Core.Path.{_≡_, refl, _∙_, sym}
 use Prim.Native.Nat.{_-_, _<_, _≤_}
 use lib.ListN.{length, drop}

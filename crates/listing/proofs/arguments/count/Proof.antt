@@ -1,8 +1,7 @@
 -- `arguments::count` meets its contract: what is found, with the arguments of the masks that are left, is the whole list.
--- Assumes nothing.
 use Prim.Native.Nat.{_^_, _<_, _≤_, _-_}
 use lib.Count.{ones-le}
-use Rattle.literals.specs.Words.{setOf}
+use Rattle.literals.specs.inside.Words.{setOf}
 use Rattle.literals.proofs.Words.{joined-below}
 use Rattle.listing.proofs.Listings.{Counted, counted-none, counted-next, counted-all}
 use borrow.Author.Needs.{needs}

@@ -1,8 +1,8 @@
 -- `arguments::fresh` meets its contract: what is found, with what is derived where one of the rules that are left is left
--- out, is all that is derived without some rule. Assumes nothing.
+-- out, is all that is derived without some rule.
 use mathlib.Core.Path.{refl, sym, ap, _∙_}
 use Prim.Native.Nat.{_<_, _^_}
-use Rattle.literals.specs.Words.{setOf}
+use Rattle.literals.specs.inside.Words.{setOf}
 use Rattle.literals.specs.Sets.{clash}
 use Rattle.literals.proofs.Members.{minus-less}
 use Rattle.argument.proofs.Entries.{room-entry}

@@ -1,6 +1,6 @@
--- `arguments::write` meets its contract: the arguments of the masks that are left are left to be written. Assumes nothing.
+-- `arguments::write` meets its contract: the arguments of the masks that are left are left to be written.
 use Prim.Native.Nat.{_≤_, _-_}
-use Rattle.listing.specs.Listing.{listIn}
+use Rattle.listing.specs.inside.Listing.{listIn}
 use Rattle.listing.proofs.Listings.{listFrom, list-all, Writing, writing-all, list-room, list-more, list-written}
 use native.Mathlib.Omega.{arith}
 use Rattle.listing.proofs.arguments.write.Statement.{statement}

@@ -1,11 +1,10 @@
--- `arguments::write_set` meets its contract: the members of the low word, and after them those of the high word. Assumes
--- nothing.
+-- `arguments::write_set` meets its contract: the members of the low word, and after them those of the high word.
 use mathlib.Core.Path.{_≡_, ap, _∙_}
 use mathlib.Core.List.{List, _++_}
 use Prim.Native.Nat.{ℕ, _+_}
 use lib.ListN.{length, length-append}
-use Rattle.literals.specs.Words.{setOf}
-use Rattle.listing.specs.Listing.{membersFrom}
+use Rattle.literals.specs.inside.Words.{setOf}
+use Rattle.listing.specs.inside.Listing.{membersFrom}
 use Rattle.listing.proofs.Picks.{members-words}
 use Rattle.listing.proofs.Listings.{written-append}
 use native.Mathlib.Omega.{arith}

@@ -1,11 +1,11 @@
--- `arguments::write_word` meets its contract: the members that are left are left to be written. Assumes nothing.
+-- `arguments::write_word` meets its contract: the members that are left are left to be written.
 use mathlib.Core.Path.{_≡_, refl, ap, _∙_}
 use mathlib.Core.List.{_∷_}
 use Prim.Native.Nat.{ℕ, _+_, _^_, _<_}
 use lib.ListN.{length}
 use Rattle.literals.specs.Sets.{minus}
 use Rattle.literals.proofs.Members.{minus-less}
-use Rattle.listing.specs.Listing.{membersFrom}
+use Rattle.listing.specs.inside.Listing.{membersFrom}
 use Rattle.listing.proofs.Picks.{members-none, members-lowest}
 use Rattle.listing.proofs.Listings.{Writing, writing-all, writing-one, writing-none}
 use native.Mathlib.Omega.{arith}

@@ -1,9 +1,9 @@
--- `LiteralSet::contradictory` meets its contract: each word is tested by itself. Assumes nothing.
+-- `LiteralSet::contradictory` meets its contract: each word is tested by itself.
 use mathlib.Core.Path.{sym, ap, ap₂, _∙_}
 use mathlib.Core.Bool.{Bool, not, _||_}
 use lib.Dec.{eqb}
 use borrow.Author.Needs.{needs}
-use Rattle.literals.specs.Words.{setOf}
+use Rattle.literals.specs.inside.Words.{setOf}
 use Rattle.literals.proofs.Tests.{not-and}
 use Rattle.literals.proofs.Members.{union-empty}
 use Rattle.literals.proofs.Pairs.{pairs, pairs-clash}

@@ -1,10 +1,10 @@
--- `LiteralSet::count` meets its contract: the digits of the two words are counted apart. Assumes nothing.
+-- `LiteralSet::count` meets its contract: the digits of the two words are counted apart.
 use mathlib.Core.Path.{sym, _∙_}
 use native.Mathlib.Nat.{add-comm}
 use native.Mathlib.Omega.{arith}
 use lib.Count.{ones, ones-cat, ones-le}
 use borrow.Author.Needs.{needs}
-use Rattle.literals.specs.Words.{setOf}
+use Rattle.literals.specs.inside.Words.{setOf}
 use Rattle.literals.proofs.LiteralSet.count.Statement.{statement}
 use Rattle.literals.proofs.LiteralSet.count.Tie as tie
 

@@ -1,6 +1,6 @@
--- `LiteralSet::empty` meets its contract. Assumes nothing.
+-- `LiteralSet::empty` meets its contract.
 use mathlib.Core.Path.{refl}
-use Rattle.literals.specs.Words.{setOf}
+use Rattle.literals.specs.inside.Words.{setOf}
 use Rattle.literals.proofs.LiteralSet.empty.Statement.{statement}
 use Rattle.literals.proofs.LiteralSet.empty.Tie as tie
 

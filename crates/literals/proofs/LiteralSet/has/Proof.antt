@@ -1,10 +1,10 @@
--- `LiteralSet::has` meets its contract: the literal is looked up in the word that has its digit. Assumes nothing.
+-- `LiteralSet::has` meets its contract: the literal is looked up in the word that has its digit.
 use mathlib.Core.Path.{sym, ap, _∙_}
 use Prim.Native.Nat.{_-_}
 use native.Mathlib.Omega.{arith}
 use borrow.Author.Needs.{needs}
 use Rattle.literals.specs.Sets.{bit, has}
-use Rattle.literals.specs.Words.{joined, setOf}
+use Rattle.literals.specs.inside.Words.{joined, setOf}
 use Rattle.literals.proofs.Words.{has-joined-low, has-joined-high}
 use Rattle.literals.proofs.LiteralSet.has.Statement.{statement}
 use Rattle.literals.proofs.LiteralSet.has.Tie as tie

@@ -1,10 +1,10 @@
--- `LiteralSet::insert` meets its contract: the literal goes into the word that has its digit. Assumes nothing.
+-- `LiteralSet::insert` meets its contract: the literal goes into the word that has its digit.
 use mathlib.Core.Path.{ap, _∙_}
 use Prim.Native.Nat.{ℕ, _-_}
 use native.Mathlib.Omega.{arith}
 use borrow.Author.Needs.{needs}
 use Rattle.literals.specs.Sets.{insert}
-use Rattle.literals.specs.Words.{joined, setOf}
+use Rattle.literals.specs.inside.Words.{joined, setOf}
 use Rattle.literals.proofs.Words.{shifted-insert, joined-insert-low, joined-insert-high}
 use Rattle.literals.proofs.LiteralSet.insert.Statement.{statement}
 use Rattle.literals.proofs.LiteralSet.insert.Tie as tie

@@ -1,6 +1,6 @@
--- `LiteralSet::is_empty` meets its contract: both words are 0. Assumes nothing.
+-- `LiteralSet::is_empty` meets its contract: both words are 0.
 use borrow.Author.Needs.{needs}
-use Rattle.literals.specs.Words.{setOf}
+use Rattle.literals.specs.inside.Words.{setOf}
 use Rattle.literals.proofs.Words.{joined-empty}
 use Rattle.literals.proofs.LiteralSet.is_empty.Statement.{statement}
 use Rattle.literals.proofs.LiteralSet.is_empty.Tie as tie

@@ -1,6 +1,6 @@
--- `LiteralSet::meets` meets its contract: the words meet. Assumes nothing.
+-- `LiteralSet::meets` meets its contract: the words meet.
 use borrow.Author.Needs.{needs}
-use Rattle.literals.specs.Words.{setOf}
+use Rattle.literals.specs.inside.Words.{setOf}
 use Rattle.literals.proofs.Words.{joined-meets}
 use Rattle.literals.proofs.LiteralSet.meets.Statement.{statement}
 use Rattle.literals.proofs.LiteralSet.meets.Tie as tie

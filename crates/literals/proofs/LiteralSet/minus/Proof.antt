@@ -1,7 +1,7 @@
--- `LiteralSet::minus` meets its contract, word by word. Assumes nothing.
+-- `LiteralSet::minus` meets its contract, word by word.
 use lib.Bits.{and-le-l}
 use borrow.Author.Needs.{needs}
-use Rattle.literals.specs.Words.{setOf}
+use Rattle.literals.specs.inside.Words.{setOf}
 use Rattle.literals.proofs.Words.{joined-minus}
 use Rattle.literals.proofs.LiteralSet.minus.Statement.{statement}
 use Rattle.literals.proofs.LiteralSet.minus.Tie as tie

@@ -1,6 +1,6 @@
--- `LiteralSet::of_words` meets its contract. Assumes nothing.
+-- `LiteralSet::of_words` meets its contract.
 use mathlib.Core.Path.{refl}
-use Rattle.literals.specs.Words.{setOf}
+use Rattle.literals.specs.inside.Words.{setOf}
 use Rattle.literals.proofs.LiteralSet.of_words.Statement.{statement}
 use Rattle.literals.proofs.LiteralSet.of_words.Tie as tie
 

@@ -1,6 +1,6 @@
--- `LiteralSet::same` meets its contract: both words are the same. Assumes nothing.
+-- `LiteralSet::same` meets its contract: both words are the same.
 use borrow.Author.Needs.{needs}
-use Rattle.literals.specs.Words.{setOf}
+use Rattle.literals.specs.inside.Words.{setOf}
 use Rattle.literals.proofs.Words.{joined-eqb}
 use Rattle.literals.proofs.LiteralSet.same.Statement.{statement}
 use Rattle.literals.proofs.LiteralSet.same.Tie as tie

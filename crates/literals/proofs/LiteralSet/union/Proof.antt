@@ -1,6 +1,6 @@
--- `LiteralSet::union` meets its contract, word by word. Assumes nothing.
+-- `LiteralSet::union` meets its contract, word by word.
 use borrow.Author.Needs.{needs}
-use Rattle.literals.specs.Words.{setOf}
+use Rattle.literals.specs.inside.Words.{setOf}
 use Rattle.literals.proofs.Words.{joined-union}
 use Rattle.literals.proofs.LiteralSet.union.Statement.{statement}
 use Rattle.literals.proofs.LiteralSet.union.Tie as tie

@@ -1,6 +1,6 @@
--- `LiteralSet::within` meets its contract: both words are within the other set's. Assumes nothing.
+-- `LiteralSet::within` meets its contract: both words are within the other set's.
 use borrow.Author.Needs.{needs}
-use Rattle.literals.specs.Words.{setOf}
+use Rattle.literals.specs.inside.Words.{setOf}
 use Rattle.literals.proofs.Words.{joined-within}
 use Rattle.literals.proofs.LiteralSet.within.Statement.{statement}
 use Rattle.literals.proofs.LiteralSet.within.Tie as tie

@@ -1,4 +1,4 @@
--- `masks::clear` meets its contract. Assumes nothing.
+-- `masks::clear` meets its contract.
 use mathlib.Core.Path.{ap}
 use lib.Bits.{and-le-l}
 use borrow.Author.Needs.{needs}

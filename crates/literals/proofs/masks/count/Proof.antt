@@ -1,4 +1,4 @@
--- `masks::count` meets its contract. Assumes nothing.
+-- `masks::count` meets its contract.
 use native.Mathlib.Omega.{arith}
 use lib.Count.{ones-le}
 use borrow.Author.Needs.{needs}

@@ -1,4 +1,4 @@
--- `masks::has` meets its contract. Assumes nothing.
+-- `masks::has` meets its contract.
 use mathlib.Core.Path.{refl}
 use borrow.Author.Needs.{needs}
 use Rattle.literals.specs.Sets.{bit, has}

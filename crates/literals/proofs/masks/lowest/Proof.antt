@@ -1,4 +1,4 @@
--- `masks::lowest` meets its contract: the zeros below the lowest digit are counted. Assumes nothing.
+-- `masks::lowest` meets its contract: the zeros below the lowest digit are counted.
 use native.Mathlib.Omega.{arith}
 use lib.Count.{trailingZeros, trailing-le}
 use borrow.Author.Needs.{needs}

@@ -1,4 +1,4 @@
--- `masks::with_bit` meets its contract. Assumes nothing.
+-- `masks::with_bit` meets its contract.
 use borrow.Author.Needs.{needs}
 use Rattle.literals.proofs.Words.{shifted-insert}
 use Rattle.literals.proofs.masks.with_bit.Statement.{statement}

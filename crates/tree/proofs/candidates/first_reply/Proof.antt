@@ -6,7 +6,7 @@ use borrow.Author.Needs.{needs}
 use lib.ListN.{getD}
 use Rattle.lists.proofs.Scans.{Scanned, scan-start, scan-more, scan-end}
 use Rattle.tree.specs.Reply.{replyKind}
-use Rattle.tree.specs.Steps.{lineOf, Prepared, testsIn}
+use Rattle.tree.specs.inside.Steps.{lineOf, Prepared, testsIn}
 use Rattle.tree.proofs.candidates.first_reply.Statement.{statement}
 use Rattle.tree.proofs.candidates.first_reply.Tie as tie
 

@@ -9,7 +9,7 @@ use lib.ListN.{getD}
 use Rattle.lists.specs.Lists.{any}
 use Rattle.literals.specs.Sets.{within}
 use Rattle.argument.specs.Argument.{maskOf}
-use Rattle.tree.specs.Steps.{lineOf}
+use Rattle.tree.specs.inside.Steps.{lineOf}
 use Rattle.tree.proofs.Steps.{line-last}
 use Rattle.tree.proofs.candidates.used.Statement.{statement}
 use Rattle.tree.proofs.candidates.used.Tie as tie

@@ -1,4 +1,4 @@
--- `columns::query` meets its contract: cause by cause, then the answer in the program. Assumes nothing.
+-- `columns::query` meets its contract: cause by cause, then the answer in the program.
 use mathlib.Core.Path.{sym, _∙_}
 use native.Mathlib.Omega.{arith}
 use native.Mathlib.Nat.{le-trans}

@@ -1,4 +1,4 @@
--- `Cursor::entry` meets its contract: an entry is two numbers. Assumes nothing.
+-- `Cursor::entry` meets its contract: an entry is two numbers.
 use mathlib.Core.Path.{sym, _∙_}
 use native.Mathlib.Omega.{arith}
 use Rattle.layout.proofs.Cursors.{number-ended, number-is, entry-past, entry-short, entry-read}

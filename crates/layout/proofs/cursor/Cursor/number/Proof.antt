@@ -1,4 +1,4 @@
--- `Cursor::number` meets its contract: one law for each answer. Assumes nothing.
+-- `Cursor::number` meets its contract: one law for each answer.
 use native.Mathlib.Omega.{arith}
 use Rattle.layout.proofs.Cursors.{number-past, number-read}
 use borrow.Author.Needs.{needs}
