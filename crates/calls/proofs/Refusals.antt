@@ -34,6 +34,7 @@ use Rattle.calls.specs.Causes.{ListCause, QueryCause, defeasibleBefore}
 use Rattle.calls.specs.Causes as causes
 use Rattle.calls.proofs.Verdicts.{Causes, Either, Only, only-to, Late, judged-one, judged-then, judged-same, Spans, only-spans}
 use Rattle.calls.proofs.Verdicts.{either-spans, Cut, late-cut, Turn, turn-one, turn-then, Of, From, from-none, from-judged}
+use Rattle.calls.proofs.Verdicts.{Sited, judged-once}
 
 -- ---- what is accepted
 
@@ -437,6 +438,36 @@ module _ (s : List ℕ) where
 
   pub call-judged : (c : Call) → Judged (QueryCause s (asked c)) (verdictOf s c)
   call-judged c = query-judged (asked c)
+
+  -- ---- and no other verdict is judged so
+
+  image-sited : Sited (ImageCause s)
+  image-sited n p (causes.image-size t) = inr refl
+  image-sited n p (causes.counts t) = inr refl
+  image-sited n p (causes.directory t) = inr refl
+  image-sited n p (causes.of-rule h c) = inl (inl (rule-number c))
+  image-sited n p (causes.last-part t) = inr refl
+  image-sited n p (causes.of-pair h c) = inl (inr (pair-number c))
+  image-sited n p (causes.contradictory c) = inr refl
+
+  list-sited : (room : ℕ) → Sited (ListCause s room)
+  list-sited room n p (causes.of-image c) = image-sited n p c
+  list-sited room n p (causes.arguments l more) = inr refl
+
+  query-sited : (a : Asked) → Sited (QueryCause s a)
+  query-sited a n p (causes.of-list c) = list-sited (a .argumentRoom) n p c
+  query-sited a n p (causes.literal h) = inr refl
+  query-sited a n p (causes.budget h) = inr refl
+  query-sited a n p (causes.nodes h) = inr refl
+
+  pub check-only : (v : Verdict) → Judged (ImageCause s) v → v ≡ checkImage s
+  check-only v j = judged-once image-sited j check-judged
+
+  pub list-only : (room : ℕ) (v : Verdict) → Judged (ListCause s room) v → v ≡ listVerdict s room
+  list-only room v j = judged-once (list-sited room) j (list-judged room)
+
+  pub call-only : (c : Call) (v : Verdict) → Judged (QueryCause s (asked c)) v → v ≡ verdictOf s c
+  call-only c v j = judged-once (query-sited (asked c)) j (call-judged c)
 
 -- ---- the number and the place of a refusal are small
 

@@ -1,11 +1,12 @@
 -- The first cause that applies, of a whole from its parts: what is looked for one after the other, and what each finds.
-use mathlib.Core.Path.{_≡_, refl, sym, subst, subst₂}
+use mathlib.Core.Path.{_≡_, refl, sym, ap₂, subst, subst₂, _∙_}
 use mathlib.Core.Bool.{Bool, true, false}
 use mathlib.Core.Logic.{_⊎_, inl, inr, ⊎-elim}
 use Prim.Native.Nat.{ℕ, zero, suc, _+_, _≤_, _<_}
 use native.Mathlib.Nat.{eq-or-lt-of-le}
 use native.Mathlib.Omega.{arith}
-use lib.Dec.{T}
+use lib.Dec.{T, ltb, leb}
+use borrow.Author.Tests.{ltb-true, ltb-false, leb-true, leb-false}
 use Rattle.layout.specs.declared.Verdict.{Verdict}
 use Rattle.layout.specs.declared.Verdict.the-variants.{Accepted, Refused}
 use Rattle.layout.specs.Causes.{refuse, andThen}
@@ -144,3 +145,97 @@ module _ (C : ℕ → ℕ → Type 0) (turn : (i j m n : ℕ) → C i m → C j 
 
   pub from-judged : (i n : ℕ) {a v : Verdict} → Judged (Of i) a → Judged (From (suc i) n) v → Judged (From i (suc n)) (andThen a v)
   from-judged i n x y = judged-same (from-next i n) (next-from i n) (judged-then (late-next i n) x (λ _. y))
+
+-- ---- the first is one: of two causes that apply and differ, one is looked for before the other
+
+-- a cause that is neither of a rule nor of a pair has place 0
+abbrev pub Sited : Causes → Type 0
+Sited C = (n p : ℕ) → C n p → (OfRule n ⊎ OfPair n) ⊎ (p ≡ 0)
+
+data Order (m q n p : ℕ) : Type 0 where
+  same : m ≡ n → q ≡ p → Order m q n p
+  before : Earlier m q n p → Order m q n p
+  after : Earlier n p m q → Order m q n p
+
+turned : {m n : ℕ} → InTurn m n → InTurn n m
+turned (inl (x, y)) = inl (y, x)
+turned (inr (x, y)) = inr (y, x)
+
+three-ways : (a b : ℕ) → (a < b) ⊎ ((b < a) ⊎ (a ≡ b))
+three-ways a b = go (ltb a b) refl (ltb b a) refl
+  where
+    go : (x : Bool) → ltb a b ≡ x → (y : Bool) → ltb b a ≡ y → (a < b) ⊎ ((b < a) ⊎ (a ≡ b))
+    go true e y f = inl (ltb-true a b e)
+    go false e true f = inr (inl (ltb-true b a f))
+    go false e false f = let h = ltb-false a b e in let k = ltb-false b a f in inr (inr (omega arith))
+
+between : (low high n : ℕ) → ((low ≤ n) × (n ≤ high)) ⊎ ¬ ((low ≤ n) × (n ≤ high))
+between low high n = go (leb low n) refl (leb n high) refl
+  where
+    go : (x : Bool) → leb low n ≡ x → (y : Bool) → leb n high ≡ y → ((low ≤ n) × (n ≤ high)) ⊎ ¬ ((low ≤ n) × (n ≤ high))
+    go true e true f = inl (leb-true low n e, leb-true n high f)
+    go true e false f = inr (λ (x, y). let h = leb-false n high f in omega arith)
+    go false e y f = inr (λ (x, z). let h = leb-false low n e in omega arith)
+
+module _ {A B : Type 0} where
+  both-or-not : A ⊎ ¬ A → B ⊎ ¬ B → (A × B) ⊎ ¬ (A × B)
+  both-or-not (inl a) (inl b) = inl (a, b)
+  both-or-not (inl a) (inr g) = inr (λ (x, y). g y)
+  both-or-not (inr f) b = inr (λ (x, y). f x)
+
+  either-or-not : A ⊎ ¬ A → B ⊎ ¬ B → (A ⊎ B) ⊎ ¬ (A ⊎ B)
+  either-or-not (inl a) b = inl (inl a)
+  either-or-not (inr f) (inl b) = inl (inr b)
+  either-or-not (inr f) (inr g) = inr (⊎-elim f g)
+
+turn-or-not : (m n : ℕ) → InTurn m n ⊎ ¬ InTurn m n
+turn-or-not m n =
+    either-or-not (both-or-not (between 4 10 m) (between 4 10 n)) (both-or-not (between 12 13 m) (between 12 13 n))
+
+module _ (m q n p : ℕ) where
+  turn-order : InTurn m n → Order m q n p
+  turn-order t = places (three-ways q p)
+    where
+      numbers : q ≡ p → (m < n) ⊎ ((n < m) ⊎ (m ≡ n)) → Order m q n p
+      numbers e (inl h) = before (at-place t e h)
+      numbers e (inr (inl h)) = after (at-place (turned t) (sym e) h)
+      numbers e (inr (inr h)) = same h e
+
+      places : (q < p) ⊎ ((p < q) ⊎ (q ≡ p)) → Order m q n p
+      places (inl h) = before (by-place t h)
+      places (inr (inl h)) = after (by-place (turned t) h)
+      places (inr (inr e)) = numbers e (three-ways m n)
+
+  other-order : ¬ InTurn m n → (m ≡ n → q ≡ p) → Order m q n p
+  other-order f k = numbers (three-ways m n)
+    where
+      numbers : (m < n) ⊎ ((n < m) ⊎ (m ≡ n)) → Order m q n p
+      numbers (inl h) = before (by-number f h)
+      numbers (inr (inl h)) = after (by-number (λ t. f (turned t)) h)
+      numbers (inr (inr e)) = same e (k e)
+
+  module _ {C : Causes} (sited : Sited C) (x : C m q) (y : C n p) where
+    same-place : ¬ InTurn m n → m ≡ n → q ≡ p
+    same-place f e = go (sited m q x) (sited n p y)
+      where
+        go : (OfRule m ⊎ OfPair m) ⊎ (q ≡ 0) → (OfRule n ⊎ OfPair n) ⊎ (p ≡ 0) → q ≡ p
+        go (inl (inl r)) b = absurd (f (inl (r, subst OfRule e r)))
+        go (inl (inr r)) b = absurd (f (inr (r, subst OfPair e r)))
+        go (inr z) (inl (inl r)) = absurd (f (inl (subst OfRule (sym e) r, r)))
+        go (inr z) (inl (inr r)) = absurd (f (inr (subst OfPair (sym e) r, r)))
+        go (inr z) (inr w) = z ∙ sym w
+
+    order-of : Order m q n p
+    order-of = ⊎-elim turn-order (λ f. other-order f (same-place f)) (turn-or-not m n)
+
+-- so that causes and their order leave one verdict
+pub judged-once : {C : Causes} → Sited C → {v w : Verdict} → Judged C v → Judged C w → v ≡ w
+judged-once s (accepted f) (accepted g) = refl
+judged-once s (accepted f) (refused {number} {place} c g) = absurd (f number place c)
+judged-once s (refused {number} {place} c f) (accepted g) = absurd (g number place c)
+judged-once s (refused {number = m} {place = q} c f) (refused {number = n} {place = p} d g) = go (order-of m q n p s c d)
+  where
+    go : Order m q n p → Refused m q ≡ Refused n p
+    go (same e h) = ap₂ Refused e h
+    go (before e) = absurd (g m q e c)
+    go (after e) = absurd (f n p e d)
