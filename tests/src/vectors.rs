@@ -1,4 +1,5 @@
-//! The vectors of `tests/vectors`: images, what `advise` prints for them, and whole forests.
+//! The vectors of `tests/vectors`: images, what `advise` prints for them, and whole forests; and those
+//! of the change requests.
 
 use std::fs;
 use std::path::{Path, PathBuf};
@@ -8,6 +9,9 @@ use crate::reference::NodeEntry;
 /// Vectors and literals with exactly as many nodes as the greatest budget, with one more, and with
 /// the longest line.
 pub const EXTREMES: [(&str, u32); 3] = [("n4096", 20), ("n4097", 28), ("deep180", 22)];
+
+/// The change requests that have vectors of their own.
+pub const REQUESTS: [&str; 1] = ["c11"];
 
 pub fn directory() -> PathBuf {
     Path::new(env!("CARGO_MANIFEST_DIR")).join("vectors")
@@ -40,9 +44,35 @@ pub fn names(ending: &str) -> Vec<String> {
     names
 }
 
-/// All images, in the order of their names.
+/// The vectors of a change request: each image with what `advise` is to print for it.
+pub fn of_request(name: &str) -> Vec<(Vec<u8>, String)> {
+    let path = directory().join(format!("requests/{name}.txt"));
+    let text = fs::read_to_string(&path);
+    let text = text.unwrap_or_else(|error| panic!("{}: {error}", path.display()));
+    let lines = text.lines().filter(|line| !line.starts_with('#'));
+    lines
+        .map(|line| {
+            let (image, advice) = line.split_once(" | ").expect("an image and its text");
+            (bytes(image), advice.replace('|', "\n") + "\n")
+        })
+        .collect()
+}
+
+fn bytes(hexadecimal: &str) -> Vec<u8> {
+    let digits: Vec<u8> = hexadecimal
+        .chars()
+        .map(|digit| digit.to_digit(16).expect("a hexadecimal digit") as u8)
+        .collect();
+    digits.chunks(2).map(|two| 16 * two[0] + two[1]).collect()
+}
+
+/// All images, in the order of their names, and those of the requests.
 pub fn images() -> Vec<Vec<u8>> {
-    names("img").iter().map(|name| image(name)).collect()
+    let mut images: Vec<Vec<u8>> = names("img").iter().map(|name| image(name)).collect();
+    for request in REQUESTS {
+        images.extend(of_request(request).into_iter().map(|(image, _)| image));
+    }
+    images
 }
 
 /// A forest that the README writes out, asked with the greatest budget.

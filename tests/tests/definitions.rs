@@ -1,19 +1,28 @@
 //! The reference against the definitions once more, on small programs of every kind.
 
-use std::collections::BTreeMap;
+use std::collections::{BTreeMap, BTreeSet};
 
 use foqtirel_tests::generator::accepted::{accepted, small_programs};
-use foqtirel_tests::generator::Description;
-use foqtirel_tests::reference::attack::Defeat;
+use foqtirel_tests::generator::{all_applicable, chained, chained_sixteen, Random};
+use foqtirel_tests::reference::attack::{Defeat, Preference};
 use foqtirel_tests::reference::derivation::{contradictory, derived};
 use foqtirel_tests::reference::line::{acceptable, Step};
 use foqtirel_tests::reference::tree::{line_to, warranted, Forest, Mark};
-use foqtirel_tests::reference::{Analysis, Argument, Code, Kind, Literal, NodeEntry, Rule};
+use foqtirel_tests::reference::{
+    read_image, Analysis, Argument, Code, Kind, Literal, NodeEntry, Program, Rule,
+};
+use foqtirel_tests::vectors::image;
 
 const SEED: u64 = 4711;
 
 fn small_analyses(count: usize) -> impl Iterator<Item = Analysis> {
     small_programs(SEED, count).filter_map(|case| Analysis::of_image(&case.image).ok())
+}
+
+/// The same with as many programs whose listed pairs form chains.
+fn small_and_chained(count: usize) -> impl Iterator<Item = Analysis> {
+    let chained = chained(SEED, count).map(|case| Analysis::of_image(&case.image));
+    small_analyses(count).chain(chained.map(|analysis| analysis.expect("a sound image")))
 }
 
 /// A derivation chain, looked for backwards: the literal is the head of a rule whose body is
@@ -70,8 +79,124 @@ fn the_list_is_the_arguments_by_definition() {
     }
 }
 
+/// The numbers of the rules at the ends of all chains of so many listed pairs that begin with a
+/// rule: each pair begins where the one before it ends.
+fn ends_of_chains(program: &Program, rule: usize, length: usize) -> BTreeSet<usize> {
+    let mut ends = BTreeSet::from([rule]);
+    for _ in 0..length {
+        let next = program
+            .pairs
+            .iter()
+            .filter(|(first, _)| ends.contains(first));
+        ends = next.map(|&(_, second)| second).collect();
+    }
+    ends
+}
+
+/// Which rules beat which, by chains of every length. A chain that passes no rule twice has at most
+/// as many pairs as there are rules.
+fn beating_by_definition(program: &Program) -> BTreeSet<(usize, usize)> {
+    let rules = program.defeasible_numbers();
+    let mut beating = BTreeSet::new();
+    for &rule in &rules {
+        for length in 1..=rules.len() {
+            let ends = ends_of_chains(program, rule, length);
+            beating.extend(ends.into_iter().map(|end| (rule, end)));
+        }
+    }
+    beating
+}
+
+/// The same as the reference has it, asked for every two rules and for every rule with itself.
+fn beating(program: &Program) -> BTreeSet<(usize, usize)> {
+    let preference = Preference::of(program);
+    let rules = program.defeasible_numbers();
+    let mut beating = BTreeSet::new();
+    for (bit, &rule) in rules.iter().enumerate() {
+        for (other_bit, &other) in rules.iter().enumerate() {
+            if preference.some_rule_beats(1 << bit, 1 << other_bit) {
+                beating.insert((rule, other));
+            }
+        }
+    }
+    beating
+}
+
+#[test]
+fn rules_beat_each_other_by_definition() {
+    let mut listed = 0;
+    let mut chained_only = 0;
+    let mut themselves = 0;
+    let programs = chained(SEED, 1100).chain(chained_sixteen(SEED, 40));
+    for case in programs.chain(small_programs(SEED, 200)) {
+        let program = read_image(&case.image).expect("a sound image");
+        let beating = beating(&program);
+        assert_eq!(beating, beating_by_definition(&program), "{}", case.note);
+        listed += program.pairs.len();
+        chained_only += beating.len() - program.pairs.len();
+        themselves += beating.iter().filter(|(a, b)| a == b).count();
+    }
+    println!("{listed} listed pairs, {chained_only} by chains only, {themselves} with itself");
+    assert!(listed > 5_000 && chained_only > 5_000 && themselves > 1_000);
+}
+
+/// Sixteen defeasible rules, numbered from 1, with some listed pairs.
+fn sixteen_with(mut pairs: Vec<(u8, u8)>) -> Program {
+    pairs.sort_unstable();
+    let mut description = all_applicable(16);
+    description.pairs = pairs;
+    read_image(&description.image()).expect("a sound image")
+}
+
+#[test]
+fn without_pairs_no_rule_beats_another() {
+    assert_eq!(beating(&sixteen_with(Vec::new())), BTreeSet::new());
+}
+
+/// So many rules beat each other and themselves, and the rest beat none and are beaten by none.
+#[test]
+fn rules_on_a_closed_chain_beat_each_other_and_themselves() {
+    let mut random = Random::seeded(SEED);
+    for length in 2..=16 {
+        let mut rules: Vec<u8> = (1..=16).collect();
+        random.shuffle(&mut rules);
+        rules.truncate(length);
+        let next = |place: usize| rules[(place + 1) % length];
+        let pairs = (0..length).map(|place| (rules[place], next(place)));
+        let mut all = BTreeSet::new();
+        for &one in &rules {
+            all.extend(rules.iter().map(|&other| (one.into(), other.into())));
+        }
+        assert_eq!(beating(&sixteen_with(pairs.collect())), all, "{rules:?}");
+    }
+}
+
+/// A chain that isn't closed orders its rules, however they stand in the table.
+#[test]
+fn rules_on_an_open_chain_beat_all_that_come_later() {
+    let mut random = Random::seeded(SEED);
+    let ascending: Vec<u8> = (1..=16).collect();
+    let mut shuffled = ascending.clone();
+    random.shuffle(&mut shuffled);
+    let descending: Vec<u8> = ascending.iter().rev().copied().collect();
+    for rules in [ascending, descending, shuffled] {
+        let pairs = rules.windows(2).map(|two| (two[0], two[1]));
+        let mut later = BTreeSet::new();
+        for (place, &one) in rules.iter().enumerate() {
+            let others = rules[place + 1..].iter();
+            later.extend(others.map(|&other| (one.into(), other.into())));
+        }
+        assert_eq!(beating(&sixteen_with(pairs.collect())), later, "{rules:?}");
+    }
+}
+
 /// Definitions 3 and 4 read off directly for two arguments.
-fn defeat_by_definition(analysis: &Analysis, x: Argument, y: Argument) -> Option<Defeat> {
+fn defeat_by_definition(
+    analysis: &Analysis,
+    beating: &BTreeSet<(usize, usize)>,
+    x: Argument,
+    y: Argument,
+) -> Option<Defeat> {
     let program = &analysis.program;
     let strict = program.strict_rules();
     let names = program.defeasible_numbers();
@@ -80,8 +205,7 @@ fn defeat_by_definition(analysis: &Analysis, x: Argument, y: Argument) -> Option
         argument.mask & 1 << bit != 0
     };
     let beats = |one: Argument, other: Argument| {
-        program
-            .pairs
+        beating
             .iter()
             .any(|&(winner, loser)| uses(one, winner) && uses(other, loser))
     };
@@ -104,13 +228,14 @@ fn defeat_by_definition(analysis: &Analysis, x: Argument, y: Argument) -> Option
 
 #[test]
 fn defeaters_are_those_by_definition() {
-    for analysis in small_analyses(200) {
+    for analysis in small_and_chained(200) {
+        let beating = beating_by_definition(&analysis.program);
         for (index, &y) in analysis.arguments.iter().enumerate() {
             let by_definition: Vec<(usize, Defeat)> = analysis
                 .arguments
                 .iter()
                 .enumerate()
-                .filter_map(|(i, &x)| Some((i, defeat_by_definition(&analysis, x, y)?)))
+                .filter_map(|(i, &x)| Some((i, defeat_by_definition(&analysis, &beating, x, y)?)))
                 .collect();
             assert_eq!(*analysis.defeaters_of(index), by_definition);
         }
@@ -170,7 +295,7 @@ type Decisive = BTreeMap<Condition, usize>;
 fn forests_are_trees_by_definition() {
     let mut nodes_seen = 0;
     let mut decisive = Decisive::new();
-    for analysis in small_analyses(600) {
+    for analysis in small_and_chained(600) {
         for literal in (0..2 * analysis.program.atoms as u8).map(Literal::new) {
             let Some(forest) = Forest::of(literal, &analysis, 300) else {
                 continue;
@@ -252,7 +377,7 @@ fn check_preorder(forest: &Forest) {
 #[test]
 fn answers_follow_warrant() {
     let mut asked = 0;
-    for analysis in small_analyses(600) {
+    for analysis in small_and_chained(600) {
         let mut arguments = vec![0; analysis.arguments.len()];
         let mut nodes = vec![NodeEntry::default(); 1000];
         for number in 0..2 * analysis.program.atoms as u32 {
@@ -284,34 +409,18 @@ fn answers_follow_warrant() {
 /// A forest of any size is given up at once; its nodes would never fit anywhere.
 #[test]
 fn enormous_forests_are_given_up_at_once() {
-    // Literal 2 has an argument against each other one, and they all beat each other in turn.
-    let mut text = "0".to_string();
-    for atom in 2..=9 {
-        text += &format!("; d {}<0; d {}<0", 2 * atom, 2 * atom + 1);
-    }
-    for atom in 2..=9 {
-        text += &format!("; 2<{}; 3<{}", 2 * atom, 2 * atom + 1);
-    }
-    let mut description = Description::parse(&text).expect("a program");
-    for first in 1..=16u8 {
-        for second in 1..=16u8 {
-            let ahead = (16 + second - first) % 16;
-            if (1..8).contains(&ahead) {
-                description.pairs.push((first, second));
-            }
-        }
-    }
-    let analysis = Analysis::of_image(&description.image()).expect("a sound image");
+    let analysis = Analysis::of_image(&image("deep180")).expect("a sound image");
+    let literal = Literal::new(80);
     let mut arguments = vec![0; 4096];
     let mut nodes = vec![NodeEntry::default(); 4096];
     for budget in [0, 1, 100, 4096] {
         let answer = analysis
-            .query(2, budget, &mut arguments, &mut nodes)
+            .query(literal.number().into(), budget, &mut arguments, &mut nodes)
             .expect("an answer");
         assert_eq!(answer.code, Code::Unfinished);
         assert_eq!(answer.nodes, budget as usize);
     }
-    let forest = Forest::of(Literal::new(2), &analysis, 300_000);
+    let forest = Forest::of(literal, &analysis, 300_000);
     assert!(forest.is_none(), "far from small");
 }
 

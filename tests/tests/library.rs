@@ -78,6 +78,16 @@ fn every_vector_is_advised_as_written() {
     }
 }
 
+#[test]
+fn every_request_is_advised_as_written() {
+    for request in vectors::REQUESTS {
+        for (image, text) in vectors::of_request(request) {
+            assert_eq!(advise(&image, by_trees), text, "{request}: {image:02x?}");
+            assert_eq!(advise(&image, by_query), text, "{request}: {image:02x?}");
+        }
+    }
+}
+
 /// Where the list is refused, so is every query, with the same number and place.
 #[test]
 fn refused_vectors_are_refused_by_every_call() {

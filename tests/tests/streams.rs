@@ -97,19 +97,36 @@ fn every_vector_is_advised_as_written() {
     }
 }
 
-/// A pipe hands the image over in as many pieces as the writer likes.
-#[test]
-fn an_image_may_come_in_pieces() {
+/// Runs the program on an image that comes through a pipe in pieces.
+#[track_caller]
+fn piped<'a>(pieces: impl Iterator<Item = &'a [u8]>) -> Ended {
     let mut command = advise();
     command.stdin(Stdio::piped()).stdout(Stdio::piped());
     let mut child = command.stderr(Stdio::piped()).spawn().expect("a process");
     let mut input = child.stdin.take().expect("a pipe");
-    for piece in vectors::image("T").chunks(5) {
+    for piece in pieces {
         input.write_all(piece).expect("a reader");
         thread::sleep(Duration::from_millis(1));
     }
     drop(input);
-    let ended = ended(child);
+    ended(child)
+}
+
+#[test]
+fn every_request_is_advised_as_written() {
+    for request in vectors::REQUESTS {
+        for (image, text) in vectors::of_request(request) {
+            let ended = piped([&image[..]].into_iter());
+            assert_eq!(ended.output, text, "{request}: {image:02x?}");
+            assert_eq!(ended.complaint, "", "{request}: {image:02x?}");
+        }
+    }
+}
+
+/// A pipe hands the image over in as many pieces as the writer likes.
+#[test]
+fn an_image_may_come_in_pieces() {
+    let ended = piped(vectors::image("T").chunks(5));
     assert_eq!(ended.output, vectors::advice("T"));
     assert_eq!(ended.complaint, "");
 }

@@ -5,7 +5,7 @@ use std::collections::BTreeMap;
 use foqtirel_tests::generator::Description;
 use foqtirel_tests::reference::tree::{line_to, Forest};
 use foqtirel_tests::reference::{advise, query, Analysis, Code, Literal, NodeEntry};
-use foqtirel_tests::vectors::{advice, image, names, readme, whole_forests};
+use foqtirel_tests::vectors::{advice, image, names, of_request, readme, whole_forests};
 
 /// Name, program and remark of each row of the README's table.
 fn table() -> Vec<(String, String, String)> {
@@ -33,6 +33,15 @@ fn every_vector_is_advised_as_written() {
 }
 
 #[test]
+fn chains_are_advised_as_requested() {
+    let vectors = of_request("c11");
+    assert_eq!(vectors.len(), 41, "vectors of the request");
+    for (image, text) in vectors {
+        assert_eq!(advise(&image), text, "{image:02x?}");
+    }
+}
+
+#[test]
 fn written_programs_build_to_the_images() {
     let mut programs: BTreeMap<String, Description> = BTreeMap::new();
     for (name, program, _) in table() {
@@ -56,8 +65,8 @@ fn written_programs_build_to_the_images() {
     assert_eq!(
         built,
         [
-            "F", "Fnopair", "G", "Gpair", "H", "K", "L", "T", "back", "chained", "concord",
-            "noargs", "subarg", "whole"
+            "F", "Fnopair", "G", "Gpair", "H", "K", "L", "T", "back", "chained", "closed",
+            "concord", "itself", "n4096", "n4097", "noargs", "replaced", "subarg", "whole"
         ]
     );
 }
@@ -98,7 +107,7 @@ fn remarks_of_the_table_hold() {
             }
         }
     }
-    assert!(found >= 16, "only {found} remarks understood");
+    assert!(found >= 25, "only {found} remarks understood");
 }
 
 fn ask(image: &[u8], literal: u32, budget: u32) -> (Code, usize) {

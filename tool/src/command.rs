@@ -11,28 +11,45 @@ use crate::program::Program;
 use crate::words::{form, sort, usage, Words};
 use crate::{help, svg};
 
-type Command = fn(&[String]) -> Result<String, Fault>;
+/// A command's text, for standard output, and notes on the program, for standard error.
+pub struct Printed {
+    pub text: String,
+    pub notes: String,
+}
+
+type Command = fn(&[String]) -> Result<Printed, Fault>;
 
 const VERSION: &str = concat!("foqtirel ", env!("CARGO_PKG_VERSION"), "\n");
 
 /// Runs the command that the words after the program's name ask for.
-pub fn run(words: &[String]) -> Result<String, Fault> {
+pub fn run(words: &[String]) -> Result<Printed, Fault> {
     let Some((command, rest)) = words.split_first() else {
         return Err(usage("no command", help::ALL));
     };
     match (command.as_str(), rest) {
-        ("--version" | "-V", _) => return Ok(VERSION.to_string()),
-        ("help", [command, ..]) if !command.starts_with('-') => {
-            return Ok(named(command)?.0.to_string())
-        }
-        ("--help" | "-h" | "help", _) => return Ok(help::ALL.to_string()),
+        ("--version" | "-V", _) => return Ok(page(VERSION)),
+        ("help", [command, ..]) if !command.starts_with('-') => return Ok(page(named(command)?.0)),
+        ("--help" | "-h" | "help", _) => return Ok(page(help::ALL)),
         _ => {}
     }
-    let (page, act) = named(command)?;
+    let (about, act) = named(command)?;
     if rest.iter().any(|word| word == "--help" || word == "-h") {
-        return Ok(page.to_string());
+        return Ok(page(about));
     }
     act(rest)
+}
+
+/// What is printed where no program is read.
+fn page(text: &str) -> Printed {
+    Printed {
+        text: text.to_string(),
+        notes: String::new(),
+    }
+}
+
+fn printed(loaded: Loaded, text: String) -> Printed {
+    let notes = loaded.notes;
+    Printed { text, notes }
 }
 
 /// A command's page and what it does.
@@ -67,7 +84,7 @@ fn write(path: &str, bytes: &[u8]) -> Result<(), Fault> {
         .map_err(|error| Fault::Usage(format!("cannot write {}: {error}", plain(path))))
 }
 
-fn compile_file(words: &[String]) -> Result<String, Fault> {
+fn compile_file(words: &[String]) -> Result<Printed, Fault> {
     let words = sort(words, &form(1, &["-o"], &["--names"], help::COMPILE))?;
     let (out, names) = (words.value("-o"), words.flag("--names"));
     if out.is_none() && !names {
@@ -85,7 +102,7 @@ fn compile_file(words: &[String]) -> Result<String, Fault> {
     if names {
         told += &numbered(&loaded.program);
     }
-    Ok(told)
+    Ok(printed(loaded, told))
 }
 
 /// What was written, with a note where this tool would not read it back.
@@ -112,9 +129,11 @@ fn numbered(program: &Program) -> String {
         .collect()
 }
 
-fn show(words: &[String]) -> Result<String, Fault> {
+fn show(words: &[String]) -> Result<Printed, Fault> {
     let words = sort(words, &form(1, &[], &[], help::SHOW))?;
-    Ok(load_image(words.places[0])?.program.text())
+    let loaded = load_image(words.places[0])?;
+    let text = loaded.program.text();
+    Ok(printed(loaded, text))
 }
 
 /// The engine's verdict. An atom that the program doesn't have is asked as one past its atoms; where all 64 are
@@ -172,26 +191,28 @@ impl Question {
     }
 }
 
-fn ask(words: &[String]) -> Result<String, Fault> {
+fn ask(words: &[String]) -> Result<Printed, Fault> {
     let words = sort(words, &form(2, &["--budget"], &[], help::ASK))?;
     let question = question(&words, help::ASK)?;
-    Ok(question.answer() + &question.hint())
+    let text = question.answer() + &question.hint();
+    Ok(printed(question.loaded, text))
 }
 
-fn explain(words: &[String]) -> Result<String, Fault> {
+fn explain(words: &[String]) -> Result<Printed, Fault> {
     let words = sort(words, &form(2, &["--budget"], &["--ascii"], help::EXPLAIN))?;
     let question = question(&words, help::EXPLAIN)?;
     let program = &question.loaded.program;
-    match (question.verdict.answer, question.asked.number) {
+    let text = match (question.verdict.answer, question.asked.number) {
         (Answer::Yes | Answer::No | Answer::Undecided, Some(number)) => {
             let ascii = words.flag("--ascii");
-            Ok(trees(program, &question.told()?, number as u8, ascii) + &question.answer())
+            trees(program, &question.told()?, number as u8, ascii) + &question.answer()
         }
-        _ => Ok(question.answer() + &question.hint()),
-    }
+        _ => question.answer() + &question.hint(),
+    };
+    Ok(printed(question.loaded, text))
 }
 
-fn tree(words: &[String]) -> Result<String, Fault> {
+fn tree(words: &[String]) -> Result<Printed, Fault> {
     let words = sort(words, &form(2, &["--svg", "--budget"], &[], help::TREE))?;
     let out = words
         .value("--svg")
@@ -208,10 +229,11 @@ fn tree(words: &[String]) -> Result<String, Fault> {
     let sentence = meaning(&asked.name, &asked.complement, verdict) + ".";
     let picture = svg::picture(&heading, &sentence, &question.told()?);
     write(out, picture.as_bytes())?;
-    Ok(format!("{}: {heading}\n{}", plain(out), question.hint()))
+    let text = format!("{}: {heading}\n{}", plain(out), question.hint());
+    Ok(printed(question.loaded, text))
 }
 
-fn advise(words: &[String]) -> Result<String, Fault> {
+fn advise(words: &[String]) -> Result<Printed, Fault> {
     let words = sort(words, &form(1, &[], &[], help::ADVISE))?;
     let loaded = load(words.places[0])?;
     let Loaded { image, program, .. } = &loaded;
@@ -230,5 +252,5 @@ fn advise(words: &[String]) -> Result<String, Fault> {
         let Verdict { answer, nodes, .. } = result.map_err(|refusal| loaded.refused(refusal))?;
         text += &format!("{name:widest$}  {:10}  {nodes}\n", answer.name());
     }
-    Ok(text)
+    Ok(printed(loaded, text))
 }

@@ -1,6 +1,7 @@
 //! An answer in words, and its trees in a terminal.
 
 use crate::engine::{Answer, Argument, Verdict};
+use crate::preference::{beats, listing};
 use crate::program::Program;
 use crate::reason::{Attack, Reasons, Standing};
 
@@ -39,23 +40,21 @@ pub fn tell(program: &Program, arguments: &[Argument], verdict: &Verdict) -> Vec
             proper: node.kind == 1,
             literal: mine.literal,
             conclusion: program.literal(mine.literal),
-            rules: program
-                .rules_of(mine.mask)
-                .into_iter()
-                .map(|number| program.rule_name(number))
-                .collect(),
+            rules: program.rule_names(&program.rules_of(mine.mask)),
             attacks: attack
+                .as_ref()
                 .map(|attack| attacks(program, mine, target, attack))
                 .unwrap_or_default(),
             because: attack
-                .map(|attack| because(program, attack.standing))
+                .as_ref()
+                .map(|attack| because(program, &attack.standing))
                 .unwrap_or_default(),
         });
     }
     told
 }
 
-fn attacks(program: &Program, mine: Argument, target: Argument, attack: Attack) -> String {
+fn attacks(program: &Program, mine: Argument, target: Argument, attack: &Attack) -> String {
     let literal = program.literal(attack.literal);
     let inside = if attack.literal == target.literal {
         ""
@@ -69,25 +68,27 @@ fn attacks(program: &Program, mine: Argument, target: Argument, attack: Attack) 
     format!("attacks {inside}{literal}{excluding}")
 }
 
-fn because(program: &Program, standing: Standing) -> String {
-    let beats = |first, second| {
-        format!(
-            "{} beats {}",
-            program.rule_name(first),
-            program.rule_name(second)
-        )
-    };
+fn because(program: &Program, standing: &Standing) -> String {
     match standing {
-        Standing::Preferred(first, second) => beats(first, second),
-        Standing::NoPair => "neither is preferred".to_string(),
-        Standing::Mutual(mine, its) => {
-            format!(
-                "neither is preferred: {} and {}",
-                beats(mine.0, mine.1),
-                beats(its.0, its.1)
-            )
-        }
+        Standing::Preferred(chain) => beats(&program.rule_names(chain)),
+        Standing::NoChain => "neither is preferred".to_string(),
+        Standing::Mutual(there, back) => format!(
+            "neither is preferred: {}",
+            both_ways(&program.rule_names(there), &program.rule_names(back))
+        ),
     }
+}
+
+/// Two chains in one sentence, or one where it leads both ways, between rules that both arguments use.
+fn both_ways(there: &[String], back: &[String]) -> String {
+    if there == back {
+        let mut ends = vec![there[0].clone(), there[there.len() - 1].clone()];
+        ends.dedup();
+        return format!("both use {}, and {}", listing(&ends), beats(there));
+    }
+    // Without a comma, the rules between would run into the second chain.
+    let comma = if there.len() > 2 { "," } else { "" };
+    format!("{}{comma} and {}", beats(there), beats(back))
 }
 
 pub fn count(number: usize, thing: &str) -> String {

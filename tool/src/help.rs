@@ -20,11 +20,14 @@ which version this is.
     b3: fits -< base_a.                   a defeasible rule with a label
     b7: ~fits -< base_a, heavy.           ~ is strong negation
     b7 > b3.                              rule b7 beats rule b3
+    b12 > b7.                             so b12 beats b3 too, through b7
     flies(tina) -< bird(tina).            ground terms are names
     :- atoms base_a, fits.                numbers atoms, names ones in no rule
 
 YES, NO, UNDECIDED, UNKNOWN and UNFINISHED are all answers. `ask` prints the
 answer as its first word, and a script tells them apart by that.
+
+Preferences that run in a circle are noted on standard error.
 
 Exit status: 0 with any answer, 1 for an error in the program or a refusal,
 2 for wrong usage or a file that can't be read or written.

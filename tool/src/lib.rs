@@ -13,6 +13,8 @@ pub mod help;
 pub mod image;
 pub mod lexer;
 pub mod load;
+pub mod notes;
+pub mod preference;
 pub mod program;
 pub mod reason;
 pub mod source;

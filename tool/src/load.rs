@@ -8,6 +8,7 @@ use std::string::FromUtf8Error;
 use crate::compile::compile;
 use crate::engine::{self, Refusal, CONTRADICTION};
 use crate::fault::{plain, Fault, Flaw, Span};
+use crate::notes::notes;
 use crate::program::Program;
 use crate::source::Source;
 use crate::{image, reason, text};
@@ -24,6 +25,8 @@ pub struct Loaded {
     pub from_image: bool,
     /// The file as messages name it.
     pub name: String,
+    /// What is said of it beside any answer, in whole lines.
+    pub notes: String,
 }
 
 impl Loaded {
@@ -65,10 +68,11 @@ pub fn load(path: &str) -> Result<Loaded, Fault> {
         Ok(text) => text,
         Err(error) => return Err(not_text(name, error)),
     };
-    let (image, program) =
+    let (image, program, source) =
         load_text(&text).map_err(|flaw| Fault::Text(flaw.render(name, &text)))?;
     engine::check(&image).map_err(|refusal| Fault::refused(refusal, name))?;
     Ok(Loaded {
+        notes: notes(&program, name, Some(&source)),
         image,
         program,
         from_image: false,
@@ -76,15 +80,16 @@ pub fn load(path: &str) -> Result<Loaded, Fault> {
     })
 }
 
-/// The image and the program of a text. A contradiction is told here, where the lines are known.
-pub fn load_text(text: &str) -> Result<(Vec<u8>, Program), Flaw> {
+/// The image and the program of a text, and the text as it was read. A contradiction is told here, where the lines are
+/// known.
+pub fn load_text(text: &str) -> Result<(Vec<u8>, Program, Source), Flaw> {
     let source = text::read(text)?;
     let program = compile(&source)?;
     let image = image::encode(&program);
     let contradictory = engine::check(&image).is_err_and(|refusal| refusal.number == CONTRADICTION);
     match reason::clash(&program).filter(|_| contradictory) {
         Some((rule, earlier)) => Err(clash_flaw(&source, rule, earlier)),
-        None => Ok((image, program)),
+        None => Ok((image, program, source)),
     }
 }
 
@@ -121,6 +126,7 @@ pub fn load_image(path: &str) -> Result<Loaded, Fault> {
     };
     match refusal {
         None => Ok(Loaded {
+            notes: notes(&program, name, None),
             image,
             program,
             from_image: true,

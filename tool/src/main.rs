@@ -1,6 +1,8 @@
 use std::io::{Error, ErrorKind, Write};
 use std::process::ExitCode;
 
+use foqtirel::command::{self, Printed};
+
 /// The engine walks down lines of up to 4,096 arguments on the stack.
 const STACK: usize = 32 << 20;
 
@@ -11,12 +13,13 @@ fn main() -> ExitCode {
         .collect();
     let work = std::thread::Builder::new()
         .stack_size(STACK)
-        .spawn(move || foqtirel::command::run(&words));
+        .spawn(move || command::run(&words));
     let Some(Ok(result)) = work.ok().map(|thread| thread.join()) else {
         return ExitCode::from(2);
     };
     match result {
-        Ok(text) => {
+        Ok(Printed { text, notes }) => {
+            tell(&notes);
             let mut out = std::io::stdout();
             let written = out.write_all(text.as_bytes()).and_then(|()| out.flush());
             // An answer that nobody could read is no success.
@@ -26,18 +29,23 @@ fn main() -> ExitCode {
             })
         }
         Err(fault) => {
-            // Where even this can't be written, the status still tells.
-            let _ = std::io::stderr().write_all(fault.render().as_bytes());
+            tell(&fault.render());
             ExitCode::from(fault.status())
         }
     }
 }
 
+/// Says it on standard error. Where that can't be written, the status still tells how it ended.
+fn tell(words: &str) {
+    let _ = std::io::stderr().write_all(words.as_bytes());
+}
+
 /// A reader that went away, as `head` does, is told nothing.
 fn tell_unwritten(error: &Error) -> u8 {
     if error.kind() != ErrorKind::BrokenPipe {
-        let told = format!("foqtirel: cannot write to standard output: {error}\n");
-        let _ = std::io::stderr().write_all(told.as_bytes());
+        tell(&format!(
+            "foqtirel: cannot write to standard output: {error}\n"
+        ));
     }
     2
 }

@@ -61,6 +61,13 @@ impl Program {
         }
     }
 
+    pub fn rule_names(&self, numbers: &[usize]) -> Vec<String> {
+        numbers
+            .iter()
+            .map(|&number| self.rule_name(number))
+            .collect()
+    }
+
     /// The numbers of the defeasible rules in a mask: bit b is the b-th defeasible rule of the table.
     pub fn rules_of(&self, mask: u16) -> Vec<usize> {
         let defeasible = (0..self.rules.len()).filter(|&number| self.rules[number].defeasible);

@@ -1,9 +1,10 @@
-//! Why one argument defeats another: which literal it attacks, and which pair decides. The engine has settled
+//! Why one argument defeats another: which literal it attacks, and which rules decide. The engine has settled
 //! that it does, and how; this finds the words for it from the same definitions.
 
 use std::collections::HashMap;
 
 use crate::engine::Argument;
+use crate::preference::{chain, Chain};
 use crate::program::Program;
 
 /// The literals that facts and strict rules derive together with those given, each a bit.
@@ -33,18 +34,18 @@ pub fn contradiction(set: u128) -> Option<u8> {
         .find(|&literal| has(set, literal) && has(set, literal + 1))
 }
 
-/// How the two stand at the attacked sub-argument, in rule numbers.
-#[derive(Clone, Copy, Debug, PartialEq, Eq)]
+/// How the two stand at the attacked sub-argument.
+#[derive(Clone, Debug, PartialEq, Eq)]
 pub enum Standing {
-    /// The first rule, of the attacker, beats the second.
-    Preferred(usize, usize),
-    /// No pair of theirs is listed.
-    NoPair,
-    /// Each has a rule that beats one of the other.
-    Mutual((usize, usize), (usize, usize)),
+    /// A chain leads from a rule of the attacker to one of the sub-argument, and none leads back.
+    Preferred(Chain),
+    /// No chain leads either way.
+    NoChain,
+    /// A chain leads from the attacker to the sub-argument, and one leads back.
+    Mutual(Chain, Chain),
 }
 
-#[derive(Clone, Copy, Debug, PartialEq, Eq)]
+#[derive(Clone, Debug, PartialEq, Eq)]
 pub struct Attack {
     /// What the attacked sub-argument concludes.
     pub literal: u8,
@@ -77,21 +78,15 @@ impl<'a> Reasons<'a> {
             if !self.exclude(attacker.literal, part.literal) {
                 continue;
             }
-            let standing = self.standing(attacker, *part);
-            match (kind, standing) {
-                (1, Some(standing @ Standing::Preferred(..))) => {
-                    return Some(Attack {
-                        literal: part.literal,
-                        standing,
-                    })
-                }
-                (2, Some(standing @ (Standing::NoPair | Standing::Mutual(..)))) => {
-                    return Some(Attack {
-                        literal: part.literal,
-                        standing,
-                    });
-                }
-                _ => {}
+            let Some(standing) = self.standing(attacker, *part) else {
+                continue;
+            };
+            let proper = matches!(standing, Standing::Preferred(_));
+            if proper == (kind == 1) {
+                return Some(Attack {
+                    literal: part.literal,
+                    standing,
+                });
             }
         }
         None
@@ -109,23 +104,13 @@ impl<'a> Reasons<'a> {
             self.program.rules_of(attacker.mask),
             self.program.rules_of(part.mask),
         );
-        match (self.beats(&mine, &its), self.beats(&its, &mine)) {
-            (Some((first, second)), None) => Some(Standing::Preferred(first, second)),
-            (None, None) => Some(Standing::NoPair),
-            (Some(mine), Some(its)) => Some(Standing::Mutual(mine, its)),
+        let there = chain(self.program, &mine, &its);
+        match (there, chain(self.program, &its, &mine)) {
+            (Some(there), None) => Some(Standing::Preferred(there)),
+            (None, None) => Some(Standing::NoChain),
+            (Some(there), Some(back)) => Some(Standing::Mutual(there, back)),
             (None, Some(_)) => None,
         }
-    }
-
-    fn beats(&self, mine: &[usize], its: &[usize]) -> Option<(usize, usize)> {
-        let pairs = self
-            .program
-            .pairs
-            .iter()
-            .map(|&(first, second)| (usize::from(first), usize::from(second)));
-        pairs
-            .into_iter()
-            .find(|(first, second)| mine.contains(first) && its.contains(second))
     }
 }
 

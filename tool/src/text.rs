@@ -2,6 +2,7 @@
 
 use crate::fault::{Flaw, Span};
 use crate::lexer::{tokens, Token};
+use crate::preference::beats;
 use crate::source::{Literal, Named, Preference, Rule, Source};
 
 /// Terms nest no deeper, so that no text can use up the stack.
@@ -140,8 +141,7 @@ impl Reader {
         self.next();
         let second = self.label()?;
         if *self.peek() == Token::Greater {
-            let help =
-                "pairs are not chained: write each pair that counts as its own line, as in `a > b.` and `b > c.`";
+            let help = one_by_one([&first.name, &second.name], self.ahead(1));
             return Err(Flaw::new(
                 self.span(),
                 "a second `>` in one preference",
@@ -448,6 +448,18 @@ impl Reader {
             }
             _ => "end each fact, rule and preference with `.`",
         }
+    }
+}
+
+/// For a chain in one line: its pairs, and what they come to.
+fn one_by_one([first, second]: [&String; 2], third: &Token) -> String {
+    let lead = "write each pair as its own line";
+    match third {
+        Token::Name(third) if first != second && second != third => format!(
+            "{lead}, `{first} > {second}.` and `{second} > {third}.`; then {}",
+            beats(&[first, second, third].map(String::clone))
+        ),
+        _ => format!("{lead}, as in `a > b.` and `b > c.`"),
     }
 }
 

@@ -2,22 +2,10 @@
 
 mod common;
 
+use common::Random;
 use foqtirel::load::load_text;
 use foqtirel::program::{Program, Rule};
 use foqtirel::{engine, image};
-
-/// A small generator with a seed, so that every run tries the same programs.
-struct Random(u64);
-
-impl Random {
-    fn below(&mut self, bound: usize) -> usize {
-        self.0 = self
-            .0
-            .wrapping_mul(6364136223846793005)
-            .wrapping_add(1442695040888963407);
-        ((self.0 >> 33) as usize) % bound
-    }
-}
 
 fn program(random: &mut Random) -> Program {
     let atoms = [0, 1, 3, 6, 12, 30, 64][random.below(7)];

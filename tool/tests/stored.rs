@@ -25,7 +25,7 @@ fn fittings() -> Vec<PathBuf> {
 #[test]
 fn advise() {
     let examples = programs(&common::examples());
-    assert!(examples.len() >= 2);
+    assert!(examples.len() >= 3);
     for path in examples.into_iter().chain(fittings()) {
         let ran = common::run(&["advise", path.to_str().unwrap()]);
         let stored = fs::read_to_string(path.with_extension("advise")).unwrap();
@@ -36,7 +36,7 @@ fn advise() {
 /// Lines that start with `$ foqtirel ` are commands; what follows is what they print.
 #[test]
 fn explain() {
-    for name in ["shop.explain", "birds.explain"] {
+    for name in ["shop.explain", "birds.explain", "bulletins.explain"] {
         let stored = fs::read_to_string(common::examples().join(name)).unwrap();
         let mut told = String::new();
         for line in stored
@@ -127,11 +127,14 @@ fn picture() {
 /// One shape for each node and two in the legend; every edge is there; no text breaks the picture.
 #[test]
 fn a_picture_has_every_node() {
+    let answers = fs::read_to_string(common::root().join("tests/vectors/n4096.advise")).unwrap();
+    let mut finished = answers.lines().filter(|line| !line.contains("UNFINISHED"));
+    let widest = finished.find(|line| line.ends_with(" 4096")).unwrap();
     let out = common::scratch("picture").join("wide.svg");
     let ran = common::run(&[
         "tree",
         "../tests/vectors/n4096.img",
-        "20",
+        widest.split(' ').next().unwrap(),
         "--svg",
         out.to_str().unwrap(),
     ]);

@@ -65,22 +65,8 @@ fn every_defeater_of_every_vector_has_its_reason() {
         let mut defeaters = 0;
         for path in vectors() {
             let image = fs::read(&path).unwrap();
-            let Ok(arguments) = foqtirel::engine::list(&image) else {
-                continue;
-            };
-            let program = foqtirel::image::decode(&image).unwrap();
-            for literal in 0..2 * program.atoms.len() as u32 {
-                let verdict = foqtirel::engine::query(&image, literal, 4096).unwrap();
-                for node in foqtirel::explain::tell(&program, &arguments, &verdict)
-                    .iter()
-                    .filter(|node| !node.root)
-                {
-                    let said = !node.attacks.is_empty()
-                        && (node.because.contains("neither is preferred") != node.proper);
-                    assert!(said, "{} {literal} {}", path.display(), node.conclusion);
-                    defeaters += 1;
-                }
-            }
+            let name = path.display().to_string();
+            defeaters += common::defeaters(&image, &name).len();
         }
         assert!(defeaters > 10_000, "{defeaters}");
     });

@@ -8,6 +8,7 @@ use Rattle.program.specs.Program.{Rule, Program, strict, defeasible, defeasible
 use Rattle.derivation.specs.Closure.{closure}
 use Rattle.argument.specs.List.{argumentList}
 use Rattle.defeat.specs.Tests.{attacked, proper, neither, blocking, kind}
+use Rattle.preference.specs.Reached.{spread, rounds}
 use Rattle.preference.specs.Preference.{beatsSome}
 use Rattle.defeat.specs.OfProgram.{testsOf}
 use Rattle.tree.specs.Reply.{unused, joins, replyKind}
@@ -84,6 +85,45 @@ answered f = let a = answer (f .program) (f .literal) (f .budget) in (codeOf a, 
 
 pub fittings-hold : map answered fittings ≡ map (λ f. f .expected) fittings
 unfolding has insert clashBelow defeasiblesFrom chosenFrom closure argumentList
-    attacked proper neither blocking kind beatsSome testsOf unused joins replyKind repliesTo remaining replies
+    attacked proper neither blocking kind spread rounds beatsSome testsOf unused joins replyKind repliesTo remaining replies
     forestOf undefeatedRoot occurs argumentsFor forest warranted answerBy
 fittings-hold = refl
+
+-- ---- chains of pairs (document 02, C-11)
+
+-- rule 3 beats rule 0 through rule 1, where these two pairs are listed
+abbrev chained : List (ℕ × ℕ) → Program
+chained pairs = record { atoms = 5; rules = d 4 (0 ∷ []) ∷ d 6 (0 ∷ []) ∷ s 0 [] ∷ d 5 (0 ∷ []) ∷ []; pairs = pairs }
+
+-- rule 3 is in no argument, and still a link
+abbrev linked : Program
+linked = record {
+  atoms = 4;
+  rules = s 0 [] ∷ d 2 (0 ∷ []) ∷ d 3 (0 ∷ []) ∷ d 4 (6 ∷ []) ∷ [];
+  pairs = (1, 3) ∷ (3, 2) ∷ [];
+}
+
+-- the arguments for 4 and for 5 share rule 1
+abbrev shared : List (ℕ × ℕ) → Program
+shared pairs = record {
+  atoms = 5;
+  rules = s 0 [] ∷ d 2 (0 ∷ []) ∷ d 4 (2 ∷ []) ∷ d 5 (2 ∷ []) ∷ d 6 (8 ∷ []) ∷ [];
+  pairs = pairs;
+}
+
+-- a chain decides; a closed one does not, and where it makes rule 1 beat itself it takes away what pair (3, 2) decided
+abbrev chains : List Fitting
+chains =
+    fit (chained ((1, 0) ∷ (3, 1) ∷ [])) 4 4096 2 3
+    ∷ fit (chained ((1, 0) ∷ (3, 1) ∷ [])) 5 4096 1 3
+    ∷ fit (chained ((0, 3) ∷ (1, 0) ∷ (3, 1) ∷ [])) 4 4096 3 4
+    ∷ fit linked 2 4096 1 3
+    ∷ fit (shared ((3, 2) ∷ [])) 4 4096 2 3
+    ∷ fit (shared ((1, 4) ∷ (3, 2) ∷ (4, 1) ∷ [])) 4 4096 3 4
+    ∷ []
+
+pub chains-hold : map answered chains ≡ map (λ f. f .expected) chains
+unfolding has insert clashBelow defeasiblesFrom chosenFrom closure argumentList
+    attacked proper neither blocking kind spread rounds beatsSome testsOf unused joins replyKind repliesTo remaining replies
+    forestOf undefeatedRoot occurs argumentsFor forest warranted answerBy
+chains-hold = refl

@@ -14,6 +14,7 @@ use Rattle.layout.specs.Causes.{verdict}
 use Rattle.layout.specs.Reading.{programIn}
 use Rattle.derivation.specs.Closure.{closure}
 use Rattle.argument.specs.List.{argumentList}
+use Rattle.preference.specs.Reached.{spread, rounds}
 use Rattle.preference.specs.Preference.{beatsSome}
 use Rattle.defeat.specs.Tests.{attacked, proper, neither, blocking, kind}
 use Rattle.defeat.specs.OfProgram.{testsOf}
@@ -200,7 +201,7 @@ pub record Called : Type 0 where
 
 pub F-called : Called
 unfolding numberAt verdict programIn has insert clashBelow defeasiblesFrom chosenFrom closure argumentList
-    attacked proper neither blocking kind beatsSome testsOf unused joins replyKind repliesTo remaining replies
+    attacked proper neither blocking kind spread rounds beatsSome testsOf unused joins replyKind repliesTo remaining replies
     forestOf undefeatedRoot occurs argumentsFor forest warranted answerBy checkImage listVerdict listed listTable
     queryVerdict queried queryArguments queryColumn hostCall
 F-called = record {

@@ -11,7 +11,8 @@ use lib.ListN.{length, getD}
 use lib.Dec.{eqb}
 use borrow.Author.Tests.{eq-eqb, ne-eqb}
 use Rattle.literals.specs.Sets.{choose, insert}
-use Rattle.program.specs.Program.{Rule, fact, ruleAt, bitOf, beatenFrom}
+use Rattle.program.specs.Program.{Rule, fact, ruleAt, bitOf}
+use Rattle.program.specs.inside.Filling.{listedFrom}
 use Rattle.layout.specs.Layout.{partOf, firstOf, secondOf}
 use Rattle.layout.specs.Reading.{ruleIn, rulesIn, pairsIn}
 
@@ -39,6 +40,11 @@ rules-found s i (suc n) r m = go (rules-found s (suc i) n r) (List·Memᴰ·case
     go f (inl e) = (i, omega arith, omega arith, e)
     go f (inr k) = let x = f k in let a = x .1 in let b = x .2 in (x .0, omega arith, omega arith, x .3)
 
+pub pairs-length : (s : List ℕ) (j n : ℕ) → length (pairsIn s j n) ≡ n
+unfolding pairsIn
+pairs-length s j zero = refl
+pairs-length s j (suc n) = ap suc (pairs-length s (suc j) n)
+
 -- each pair is that of some place
 pub pairs-found : (s : List ℕ) (j n a b : ℕ) → List·Memᴰ (a, b) (pairsIn s j n) → (k : ℕ) × (j ≤ k) × (k < j + n) × (a ≡ firstOf s k) × (b ≡ secondOf s k)
 unfolding pairsIn
@@ -49,25 +55,25 @@ pairs-found s j (suc n) a b m = go (pairs-found s (suc j) n a b) (List·Memᴰ·
     go f (inl e) = (j, omega arith, omega arith, ap (λ (q : ℕ × ℕ). q .0) e, ap (λ (q : ℕ × ℕ). q .1) e)
     go f (inr k) = let x = f k in let l = x .1 in let u = x .2 in (x .0, omega arith, omega arith, x .3, x .4)
 
--- ---- the rules that a rule beats, by the pairs from pair j to pair n
+-- ---- the rules that are listed after a rule, by the pairs from pair j to pair n
 module _ (s : List ℕ) (l : List Rule) (a m j n : ℕ) (h : j < n) where
-  beaten-next : beatenFrom l a m (pairsIn s j (n - j)) ≡ beatenFrom l a (choose (eqb (firstOf s j) a) (insert m (bitOf l (secondOf s j))) m) (pairsIn s (j + 1) (n - (j + 1)))
-  unfolding pairsIn beatenFrom
-  beaten-next =
+  listed-next : listedFrom l a m (pairsIn s j (n - j)) ≡ listedFrom l a (choose (eqb (firstOf s j) a) (insert m (bitOf l (secondOf s j))) m) (pairsIn s (j + 1) (n - (j + 1)))
+  unfolding pairsIn listedFrom
+  listed-next =
       let z : n - j ≡ suc (n - (j + 1)) = omega arith in
-      ap (λ (k : ℕ). beatenFrom l a m (pairsIn s j k)) z
-      ∙ ap (λ (k : ℕ). beatenFrom l a (choose (eqb (firstOf s j) a) (insert m (bitOf l (secondOf s j))) m) (pairsIn s k (n - (j + 1)))) (sym (add-one j))
+      ap (λ (k : ℕ). listedFrom l a m (pairsIn s j k)) z
+      ∙ ap (λ (k : ℕ). listedFrom l a (choose (eqb (firstOf s j) a) (insert m (bitOf l (secondOf s j))) m) (pairsIn s k (n - (j + 1)))) (sym (add-one j))
 
-  pub beaten-other : (firstOf s j ≡ a → ⊥) → beatenFrom l a m (pairsIn s j (n - j)) ≡ beatenFrom l a m (pairsIn s (j + 1) (n - (j + 1)))
-  beaten-other d =
-      beaten-next
-      ∙ ap (λ (b : Bool). beatenFrom l a (choose b (insert m (bitOf l (secondOf s j))) m) (pairsIn s (j + 1) (n - (j + 1)))) (ne-eqb (firstOf s j) a d)
+  pub listed-other : (firstOf s j ≡ a → ⊥) → listedFrom l a m (pairsIn s j (n - j)) ≡ listedFrom l a m (pairsIn s (j + 1) (n - (j + 1)))
+  listed-other d =
+      listed-next
+      ∙ ap (λ (b : Bool). listedFrom l a (choose b (insert m (bitOf l (secondOf s j))) m) (pairsIn s (j + 1) (n - (j + 1)))) (ne-eqb (firstOf s j) a d)
 
-  pub beaten-one : firstOf s j ≡ a → beatenFrom l a m (pairsIn s j (n - j)) ≡ beatenFrom l a (insert m (bitOf l (secondOf s j))) (pairsIn s (j + 1) (n - (j + 1)))
-  beaten-one e =
-      beaten-next
-      ∙ ap (λ (b : Bool). beatenFrom l a (choose b (insert m (bitOf l (secondOf s j))) m) (pairsIn s (j + 1) (n - (j + 1)))) (eq-eqb (firstOf s j) a e)
+  pub listed-one : firstOf s j ≡ a → listedFrom l a m (pairsIn s j (n - j)) ≡ listedFrom l a (insert m (bitOf l (secondOf s j))) (pairsIn s (j + 1) (n - (j + 1)))
+  listed-one e =
+      listed-next
+      ∙ ap (λ (b : Bool). listedFrom l a (choose b (insert m (bitOf l (secondOf s j))) m) (pairsIn s (j + 1) (n - (j + 1)))) (eq-eqb (firstOf s j) a e)
 
-pub beaten-end : (s : List ℕ) (l : List Rule) (a m j n : ℕ) → n ≤ j → beatenFrom l a m (pairsIn s j (n - j)) ≡ m
-unfolding pairsIn beatenFrom
-beaten-end s l a m j n h = let z : n - j ≡ 0 = omega arith in ap (λ (k : ℕ). beatenFrom l a m (pairsIn s j k)) z
+pub listed-end : (s : List ℕ) (l : List Rule) (a m j n : ℕ) → n ≤ j → listedFrom l a m (pairsIn s j (n - j)) ≡ m
+unfolding pairsIn listedFrom
+listed-end s l a m j n h = let z : n - j ≡ 0 = omega arith in ap (λ (k : ℕ). listedFrom l a m (pairsIn s j k)) z

@@ -7,9 +7,9 @@ ghost use lib.ListN.{length, drop};
 ghost use lib.Dec.{eqb};
 ghost use Rattle.literals.specs.Sets.{insertAll};
 ghost use Rattle.literals.specs.inside.Words.{setOf};
-ghost use Rattle.program.specs.Program.{Rule, nextBit, defeasibles, beatenFrom};
+ghost use Rattle.program.specs.Program.{Rule, nextBit, defeasibles};
 ghost use Rattle.program.specs.inside.Table.{Holds};
-ghost use Rattle.program.specs.inside.Filling.{Stored, RowsTo, BeatenTo};
+ghost use Rattle.program.specs.inside.Filling.{Stored, RowsTo, listedFrom, ListedTo};
 ghost use Rattle.layout.specs.Layout.{atomsOf, rulesOf, pairsOf, partOf, kindByte, bodyBytes};
 ghost use Rattle.layout.specs.Causes.{allBelow, verdict};
 ghost use Rattle.layout.specs.Reading.{ruleIn, rulesIn, pairsIn, programIn};
@@ -20,6 +20,7 @@ use layout::header::Counts;
 use layout::part;
 use literals::LiteralSet;
 use program::RuleTable;
+use program::chain;
 
 fn wide(byte: u8) -> u64
     ensures { λ r. ⌜ r ≡ byte ⌝ }
@@ -74,10 +75,10 @@ fn store_rules(table: &mut RuleTable, image: &[u8], rules: usize) -> u64
     bit
 }
 
-// The mask of the rules that a rule beats by one of the pairs.
-fn beaten_mask(table: &RuleTable, pairs: &[u8], count: usize, rule: usize) -> u64
+// The mask of the rules that a rule beats by a listed pair.
+fn listed_mask(table: &RuleTable, pairs: &[u8], count: usize, rule: usize) -> u64
     requires { ⌜ (count ≤ 240) × (length (now pairs) ≡ 2 * count) × (Named 96 (now pairs) count) ⌝ }
-    ensures { λ r. ⌜ ((s : List ℕ) (l : List Rule) → now (pairs .entry) ≡ partOf s (rulesOf s) → BitsAt l (now (table .entry)) (now (pairs .entry)) count → r ≡ beatenFrom l rule 0 (pairsIn s 0 count)) ⌝ }
+    ensures { λ r. ⌜ ((s : List ℕ) (l : List Rule) → now (pairs .entry) ≡ partOf s (rulesOf s) → BitsAt l (now (table .entry)) (now (pairs .entry)) count → r ≡ listedFrom l rule 0 (pairsIn s 0 count)) ⌝ }
 {
     let mut mask: u64 = 0;
     let mut j: usize = 0;
@@ -93,10 +94,10 @@ fn beaten_mask(table: &RuleTable, pairs: &[u8], count: usize, rule: usize) -> u6
     mask
 }
 
-// Writes for each defeasible rule the mask of those it beats.
-fn store_beaten(table: &mut RuleTable, image: &[u8], rules: usize, count: usize)
+// Writes for each defeasible rule the mask of those it beats by a listed pair.
+fn store_listed(table: &mut RuleTable, image: &[u8], rules: usize, count: usize)
     requires { ⌜ (verdict (now image) ≡ Verdict.Accepted) × (rules ≡ rulesOf (now image)) × (count ≡ pairsOf (now image)) ⌝ }
-    ensures { λ _. ⌜ (length (now (table .exit)) ≡ length (now (table .entry))) × (length (now (table .entry)) ≡ 419 → RowsTo (rulesIn (now (image .entry)) 0 rules) rules (now (table .entry)) → BeatenTo (programIn (now (image .entry))) rules (now (table .exit))) ⌝ }
+    ensures { λ _. ⌜ (length (now (table .exit)) ≡ length (now (table .entry))) × (length (now (table .entry)) ≡ 419 → RowsTo (rulesIn (now (image .entry)) 0 rules) rules (now (table .entry)) → ListedTo (programIn (now (image .entry))) rules (now (table .exit))) ⌝ }
 {
     let last = cursor::locate(image, rules);
     let start = last.from;
@@ -112,7 +113,7 @@ fn store_beaten(table: &mut RuleTable, image: &[u8], rules: usize, count: usize)
             i += 1;
             continue;
         }
-        let mask = beaten_mask(table, pairs, count, i);
+        let mask = listed_mask(table, pairs, count, i);
         program::store_beaten(table, bit, mask);
         bit += 1;
         i += 1;
@@ -128,6 +129,7 @@ pub fn all(table: &mut RuleTable, image: &[u8], counts: Counts)
     let rules = counts.rules;
     let pairs = counts.pairs;
     let bits = store_rules(table, image, rules);
-    store_beaten(table, image, rules, pairs);
+    store_listed(table, image, rules, pairs);
+    chain::all(table, bits, pairs);
     program::store_counts(table, rules as u64, bits, atoms as u64);
 }

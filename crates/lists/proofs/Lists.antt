@@ -57,6 +57,10 @@ module _ {A : Type 0} where
   pub within-nil : (m : List A) → Within [] m
   within-nil m x i = absurd (List·Memᴰ·not-nil i)
 
+  pub length-none : {x : A} (l : List A) → length l ≤ 0 → List·Memᴰ x l → ⊥
+  length-none [] h i = List·Memᴰ·not-nil i
+  length-none (y ∷ l) h i = omega arith
+
   pub within-cons : {l m : List A} (y : A) → Within l m → Within (y ∷ l) (y ∷ m)
   within-cons y w x (List·Memᴰ·head e) = List·Memᴰ·head e
   within-cons y w x (List·Memᴰ·tail i) = List·Memᴰ·tail (w x i)

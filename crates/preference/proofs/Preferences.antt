@@ -1,6 +1,6 @@
 -- The computed preference is the published one, and the masks of the beaten rules decide it.
-use mathlib.Core.Path.{_≡_, sym, ap, _∙_}
-use mathlib.Core.Bool.{true, false, not, _&&_, false≢true}
+use mathlib.Core.Path.{_≡_, sym, ap, subst, _∙_}
+use mathlib.Core.Bool.{true, false, not, false≢true}
 use mathlib.Core.List.{List}
 use Prim.Native.Nat.{ℕ, _^_}
 use lib.Dec.{eqb}
@@ -12,12 +12,14 @@ use Rattle.literals.specs.Sets.{has, minus, within, meets}
 use Rattle.literals.proofs.Tests.{true-T, and-intro}
 use Rattle.literals.proofs.Members.{has-bound, has-empty, has-minus-power}
 use Rattle.literals.proofs.Within.{within-each, minus-within, meets-both, both-meets}
-use Rattle.program.specs.Program.{Program, isDefeasible, defeasibles, ruleAt, bitOf, inMask, beaten}
+use Rattle.program.specs.Program.{Program, isDefeasible, defeasibles, ruleAt, bitOf, inMask}
 use Rattle.program.specs.Limits.{DefeasibleAt, Limits, Mask}
-use Rattle.program.specs.inside.Table.{Holds, beatenAt}
+use Rattle.program.specs.inside.Table.{BeatenMask, Holds, beatenAt}
 use Rattle.program.proofs.Numbers.{defeasible-test, defeasible-found, bit-of-same, bit-of-found}
-use Rattle.program.proofs.Pairs.{beaten-found, beaten-exact}
+use Rattle.program.proofs.Chaining.{beats-second}
+use Rattle.preference.specs.Reached.{reached}
 use Rattle.preference.specs.Preference.{RuleOf, SomeBeats, Preferred, beatsSome, preferredTest}
+use Rattle.preference.proofs.Reached.{reached-found, reached-intro}
 
 -- ---- the tests, of every program
 
@@ -40,17 +42,21 @@ module _ (p : Program) where
   pub beats-some-renders : (m n : ℕ) → Decides (beatsSome p m n) (SomeBeats p m n)
   unfolding beatsSome
   beats-some-renders m n = decides-iff
-      (λ r. record {
-        winner = r .0 .0;
-        loser = r .0 .1;
-        of-first = r .2 .0;
-        of-second = r .2 .1;
-        beats = r .1;
+      (λ r.
+      let b = reached-found p (inMask (p .rules) m) (r .0) (r .1) in
+      record {
+        winner = b .0;
+        loser = r .0;
+        of-first = rule-of-renders m (b .0) .says (b .1);
+        of-second = r .2;
+        beats = b .2;
       })
-      (λ s. ((s .winner, s .loser), s .beats, (s .of-first, s .of-second)))
-      (decides-any (λ q. RuleOf p m (q .0) × RuleOf p n (q .1))
-      (λ q. inMask (p .rules) m (q .0) && inMask (p .rules) n (q .1)) (p .pairs)
-      (λ q i. decides-and (rule-of-renders m (q .0)) (rule-of-renders n (q .1))))
+      (λ s. (
+        s .loser,
+        reached-intro p (inMask (p .rules) m) (rule-of-renders m (s .winner) .passes (s .of-first)) (s .beats),
+        s .of-second,
+      ))
+      (decides-any (RuleOf p n) (inMask (p .rules) n) (reached p (inMask (p .rules) m)) (λ x i. rule-of-renders n x))
 
   pub preferred-renders : (m n : ℕ) → Decides (preferredTest p m n) (Preferred p m n)
   preferred-renders m n = decides-and (beats-some-renders m n) (decides-not (beats-some-renders n m))
@@ -75,22 +81,22 @@ module _ (p : Program) where
 
 -- ---- by the masks of the beaten rules, within the limits
 
-module _ (p : Program) (limits : Limits p) (m n a : ℕ) (r : RuleOf p m a) where
+module _ (p : Program) (limits : Limits p) (m n a w : ℕ) (r : RuleOf p m a) (mask : BeatenMask p a w) where
   -- rule a of m beats a rule of n
-  some-beats-met : meets (beaten p a) n ≡ true → SomeBeats p m n
+  some-beats-met : meets w n ≡ true → SomeBeats p m n
   some-beats-met h =
-      let k = meets-both (beaten p a) n h in
-      let f = beaten-found p a (k .0) (k .1) in
+      let k = meets-both w n h in
+      let f = mask .found (k .0) (k .1) in
       record {
         winner = a;
         loser = f .0;
         of-first = r;
-        of-second = record { rule = limits .pairs-name a (f .0) (f .1) .second; member = ap (has n) (f .2) ∙ k .2 };
+        of-second = record { rule = beats-second limits (f .1); member = ap (has n) (f .2) ∙ k .2 };
         beats = f .1;
       }
 
   -- it beats none, so that another rule of m does, if any
-  some-beats-rest : meets (beaten p a) n ≡ false → SomeBeats p m n → SomeBeats p (minus m (2 ^ bitOf (p .rules) a)) n
+  some-beats-rest : meets w n ≡ false → SomeBeats p m n → SomeBeats p (minus m (2 ^ bitOf (p .rules) a)) n
   some-beats-rest h s = record {
     winner = s .winner;
     loser = s .loser;
@@ -108,8 +114,8 @@ module _ (p : Program) (limits : Limits p) (m n a : ℕ) (r : RuleOf p m a) wher
       other : bitW ≡ bitA → ⊥
       other e =
           let same : s .winner ≡ a = bit-of-same (p .rules) (s .of-first .rule) (r .rule) e in
-          let hit = beaten-exact p a limits (s .of-second .rule) .1 (rw same at (s .beats)) in
-          false≢true (sym h ∙ both-meets (beaten p a) n (bitOf (p .rules) (s .loser)) hit (s .of-second .member))
+          let hit = mask .each (rw same at (s .beats)) in
+          false≢true (sym h ∙ both-meets w n (bitOf (p .rules) (s .loser)) hit (s .of-second .member))
 
       left : has (minus m (2 ^ bitA)) bitW ≡ true
       left =
@@ -127,18 +133,20 @@ module _ {p : Program} {t : List ℕ} (limits : Limits p) (holds : Holds p t) (m
   of-mask : RuleOf p m (owner .0)
   of-mask = record { rule = owner .1; member = ap (has m) (owner .2) ∙ h }
 
-  its-mask : beatenAt t b ≡ beaten p (owner .0)
-  its-mask = ap (beatenAt t) (sym (owner .2)) ∙ holds .beaten-is (owner .0) (owner .1 .there) (defeasible-test (owner .1))
+  its-mask : BeatenMask p (owner .0) (beatenAt t b)
+  its-mask =
+      subst (λ (k : ℕ). BeatenMask p (owner .0) (beatenAt t k)) (owner .2)
+      (holds .beaten-is (owner .0) (owner .1 .there) (defeasible-test (owner .1)))
 
   pub beats-some-met : meets (beatenAt t b) n ≡ true → beatsSome p m n ≡ true
   beats-some-met e = T-true (beatsSome p m n) (beats-some-renders p m n .passes
-      (some-beats-met p limits m n (owner .0) of-mask (rw its-mask at e)))
+      (some-beats-met p limits m n (owner .0) (beatenAt t b) of-mask its-mask e))
 
   pub beats-some-rest : meets (beatenAt t b) n ≡ false → beatsSome p (minus m (2 ^ b)) n ≡ beatsSome p m n
   beats-some-rest e =
       ap (λ (k : ℕ). beatsSome p (minus m (2 ^ k)) n) (sym (owner .2))
       ∙ decides-same (beats-some-renders p (without (owner .0)) n)
-      (decides-iff (some-beats-rest p limits m n (owner .0) of-mask (rw its-mask at e))
+      (decides-iff (some-beats-rest p limits m n (owner .0) (beatenAt t b) of-mask its-mask e)
       (some-beats-mono p (without (owner .0)) m n (minus-within m (2 ^ bitOf (p .rules) (owner .0))))
       (beats-some-renders p m n))
     where

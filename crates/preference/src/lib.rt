@@ -1,4 +1,4 @@
-// Preference between arguments by listed pairs. An argument's rules are those of its mask.
+// Preference between arguments by chains of listed pairs. An argument's rules are those of its mask.
 ghost use mathlib.Core.Path.{_≡_};
 ghost use Prim.Native.Nat.{_<_, _^_};
 ghost use Rattle.program.specs.Program.{Program};

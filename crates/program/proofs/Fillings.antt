@@ -12,11 +12,11 @@ use lib.Seq.{getD-set-same, getD-set-other}
 use Rattle.literals.specs.declared.LiteralSet.{LiteralSet}
 use Rattle.literals.specs.Sets.{choose, insertAll}
 use Rattle.literals.specs.inside.Words.{joined, setOf}
-use Rattle.program.specs.Program.{Kind, strict, defeasible, Rule, Program, isDefeasible, nextBit, defeasiblesFrom, defeasibles, bitOf, ruleAt, beaten}
+use Rattle.program.specs.Program.{Kind, strict, defeasible, Rule, Program, isDefeasible, nextBit, defeasiblesFrom, defeasibles, bitOf, ruleAt}
 use Rattle.program.specs.Limits.{DefeasibleAt}
-use Rattle.program.specs.inside.Table.{Row, ruleOfBit, beatenAt, needOf, Holds}
+use Rattle.program.specs.inside.Table.{Row, ruleOfBit, beatenAt, needOf, BeatenMask, Holds}
 use Rattle.program.specs.inside.Store.{withRow, withBit, withBeaten, withCounts}
-use Rattle.program.specs.inside.Filling.{SameRow, Stored, RowsTo, BeatenTo}
+use Rattle.program.specs.inside.Filling.{SameRow, Stored, RowsTo, listedMask, ListedTo, Chained}
 use Rattle.program.proofs.Numbers.{defeasible-found, bit-of-less, bit-of-below}
 use Rattle.program.proofs.Stores.{Beside, beside-row, beside-rows, row-beside, row-head, row-body, row-need, row-length}
 
@@ -104,28 +104,39 @@ module _ (r : Rule) (i b : ℕ) (s : List ℕ) (h : ℕ) (body : LiteralSet) (sm
             ∙ row-beside s i h body (2 ^ b) (384 + n) (beside-rows i (384 + n) small (omega arith));
       }
 
--- ---- the masks of those that each rule beats
-kept-rows : (l : List Rule) (n : ℕ) (s : List ℕ) (k v : ℕ) → n ≤ 96 → n ≤ length l → defeasibles l ≤ 16 → 400 ≤ k → RowsTo l n s → RowsTo l n (set s k v)
-kept-rows l n s k v few within bits far r = record {
-  row = λ i h. row-kept (ruleAt l i) (bitOf l i) i s (set s k v) (row-behind s k v i (omega arith) (omega arith)) (r .row i h);
+-- ---- the masks of those that each rule beats by a listed pair
+
+-- what leaves the words before those masks leaves the rules
+pub rows-same : (l : List Rule) (n : ℕ) (s t : List ℕ) → n ≤ 96 → defeasibles l ≤ 16
+    → ((w : ℕ) → w < 400 → getD t w 0 ≡ getD s w 0) → RowsTo l n s → RowsTo l n t
+rows-same l n s t few bits same r = record {
+  row = λ i h. row-kept (ruleAt l i) (bitOf l i) i s t (record {
+    head-same = same (4 * i) (omega arith);
+    body-same = ap₂ joined (same (4 * i + 2) (omega arith)) (same (4 * i + 1) (omega arith));
+    need-same = same (4 * i + 3) (omega arith);
+  }) (r .row i h);
   rule-of = λ i h d.
       let small = bit-of-below l (defeasible-found l i d) in
-      getD-set-other s k (384 + bitOf l i) v 0 (λ e. omega arith) ∙ r .rule-of i h d;
+      same (384 + bitOf l i) (omega arith) ∙ r .rule-of i h d;
 }
 
+kept-rows : (l : List Rule) (n : ℕ) (s : List ℕ) (k v : ℕ) → n ≤ 96 → defeasibles l ≤ 16 → 400 ≤ k → RowsTo l n s → RowsTo l n (set s k v)
+kept-rows l n s k v few bits far r =
+    rows-same l n s (set s k v) few bits (λ w h. getD-set-other s k w v 0 (λ e. omega arith)) r
+
 module _ (p : Program) (n : ℕ) (s : List ℕ) (inside : n < length (p .rules)) (few : length (p .rules) ≤ 96) (bits : defeasibles (p .rules) ≤ 16) where
-  pub beaten-skip : BeatenTo p n s → ruleAt (p .rules) n .kind ≡ strict → BeatenTo p (suc n) s
-  beaten-skip b k = record { rows = b .rows; beaten-is = λ i h d. at i d (eq-or-lt-of-le {n = i} {m = n} (omega arith)) }
+  pub listed-skip : ListedTo p n s → ruleAt (p .rules) n .kind ≡ strict → ListedTo p (suc n) s
+  listed-skip b k = record { rows = b .rows; listed-is = λ i h d. at i d (eq-or-lt-of-le {n = i} {m = n} (omega arith)) }
     where
-      at : (i : ℕ) → isDefeasible (ruleAt (p .rules) i .kind) ≡ true → (i ≡ n) ⊎ (i < n) → beatenAt s (bitOf (p .rules) i) ≡ beaten p i
+      at : (i : ℕ) → isDefeasible (ruleAt (p .rules) i .kind) ≡ true → (i ≡ n) ⊎ (i < n) → beatenAt s (bitOf (p .rules) i) ≡ listedMask p i
       at i d (inl e) =
           absurd (let z : _≡_ {A = ℕ} 0 1 = ap (λ (t : Bool). choose t 0 1) (sym d ∙ ap (λ (j : ℕ). isDefeasible (ruleAt (p .rules) j .kind)) e ∙ ap isDefeasible k) in omega arith)
-      at i d (inr h) = b .beaten-is i h d
+      at i d (inr h) = b .listed-is i h d
 
-  pub beaten-more : (t : List ℕ) → length s ≡ 419 → BeatenTo p n s → ruleAt (p .rules) n .kind ≡ defeasible → t ≡ withBeaten s (bitOf (p .rules) n) (beaten p n) → BeatenTo p (suc n) t
-  beaten-more t long b k e = subst (BeatenTo p (suc n)) (sym e) (record {
-    rows = kept-rows (p .rules) (length (p .rules)) s (400 + bitOf (p .rules) n) (beaten p n) few (omega arith) bits (omega arith) (b .rows);
-    beaten-is = λ i h d. at i d (eq-or-lt-of-le {n = i} {m = n} (omega arith));
+  pub listed-more : (t : List ℕ) → length s ≡ 419 → ListedTo p n s → ruleAt (p .rules) n .kind ≡ defeasible → t ≡ withBeaten s (bitOf (p .rules) n) (listedMask p n) → ListedTo p (suc n) t
+  listed-more t long b k e = subst (ListedTo p (suc n)) (sym e) (record {
+    rows = kept-rows (p .rules) (length (p .rules)) s (400 + bitOf (p .rules) n) (listedMask p n) few bits (omega arith) (b .rows);
+    listed-is = λ i h d. at i d (eq-or-lt-of-le {n = i} {m = n} (omega arith));
   })
     where
       here : isDefeasible (ruleAt (p .rules) n .kind) ≡ true
@@ -134,17 +145,17 @@ module _ (p : Program) (n : ℕ) (s : List ℕ) (inside : n < length (p .rules))
       room : bitOf (p .rules) n < defeasibles (p .rules)
       room = bit-of-below (p .rules) (defeasible-found (p .rules) n here)
 
-      at : (i : ℕ) → isDefeasible (ruleAt (p .rules) i .kind) ≡ true → (i ≡ n) ⊎ (i < n) → beatenAt (withBeaten s (bitOf (p .rules) n) (beaten p n)) (bitOf (p .rules) i) ≡ beaten p i
+      at : (i : ℕ) → isDefeasible (ruleAt (p .rules) i .kind) ≡ true → (i ≡ n) ⊎ (i < n) → beatenAt (withBeaten s (bitOf (p .rules) n) (listedMask p n)) (bitOf (p .rules) i) ≡ listedMask p i
       at i d (inl q) =
-          subst (λ (j : ℕ). beatenAt (withBeaten s (bitOf (p .rules) n) (beaten p n)) (bitOf (p .rules) j) ≡ beaten p j) (sym q)
-          (let r = room in getD-set-same s (400 + bitOf (p .rules) n) (beaten p n) 0 (omega arith))
+          subst (λ (j : ℕ). beatenAt (withBeaten s (bitOf (p .rules) n) (listedMask p n)) (bitOf (p .rules) j) ≡ listedMask p j) (sym q)
+          (let r = room in getD-set-same s (400 + bitOf (p .rules) n) (listedMask p n) 0 (omega arith))
       at i d (inr h) =
           let less = bit-of-less (p .rules) (defeasible-found (p .rules) i d) h in
-          getD-set-other s (400 + bitOf (p .rules) n) (400 + bitOf (p .rules) i) (beaten p n) 0 (λ q. omega arith) ∙ b .beaten-is i h d
+          getD-set-other s (400 + bitOf (p .rules) n) (400 + bitOf (p .rules) i) (listedMask p n) 0 (λ q. omega arith) ∙ b .listed-is i h d
 
 -- ---- and the counts
 module _ (p : Program) (s t : List ℕ) (few : length (p .rules) ≤ 96) (bits : defeasibles (p .rules) ≤ 16) where
-  pub counts-hold : (rules many atoms : ℕ) → length s ≡ 419 → BeatenTo p (length (p .rules)) s → rules ≡ length (p .rules) → many ≡ defeasibles (p .rules) → atoms ≡ p .atoms → t ≡ withCounts s rules many atoms → Holds p t
+  pub counts-hold : (rules many atoms : ℕ) → length s ≡ 419 → Chained p s → rules ≡ length (p .rules) → many ≡ defeasibles (p .rules) → atoms ≡ p .atoms → t ≡ withCounts s rules many atoms → Holds p t
   counts-hold rules many atoms long b er em ea e = subst (Holds p) (sym e) (record {
     rules-are = getD-set-other two 418 416 atoms 0 (λ q. omega arith) ∙ getD-set-other one 417 416 many 0 (λ q. omega arith) ∙ getD-set-same s 416 rules 0 (omega arith) ∙ er;
     bits-are = getD-set-other two 418 417 atoms 0 (λ q. omega arith) ∙ getD-set-same one 417 many 0 (simp length-set (omega arith)) ∙ em;
@@ -153,10 +164,11 @@ module _ (p : Program) (s t : List ℕ) (few : length (p .rules) ≤ 96) (bits :
     rule-of = rows .rule-of;
     beaten-is = λ i h d.
         let small = bit-of-below (p .rules) (defeasible-found (p .rules) i d) in
+        let same =
         getD-set-other two 418 (400 + bitOf (p .rules) i) atoms 0 (λ q. omega arith)
         ∙ getD-set-other one 417 (400 + bitOf (p .rules) i) many 0 (λ q. omega arith)
-        ∙ getD-set-other s 416 (400 + bitOf (p .rules) i) rules 0 (λ q. omega arith)
-        ∙ b .beaten-is i h d;
+        ∙ getD-set-other s 416 (400 + bitOf (p .rules) i) rules 0 (λ q. omega arith) in
+        subst (BeatenMask p i) (sym same) (b .beaten-is i h d);
   })
     where
       one : List ℕ
@@ -170,6 +182,6 @@ module _ (p : Program) (s t : List ℕ) (few : length (p .rules) ≤ 96) (bits :
 
       rows : RowsTo (p .rules) n (set two 418 atoms)
       rows =
-          kept-rows (p .rules) n two 418 atoms few (omega arith) bits (omega arith)
-          (kept-rows (p .rules) n one 417 many few (omega arith) bits (omega arith)
-          (kept-rows (p .rules) n s 416 rules few (omega arith) bits (omega arith) (b .rows)))
+          kept-rows (p .rules) n two 418 atoms few bits (omega arith)
+          (kept-rows (p .rules) n one 417 many few bits (omega arith)
+          (kept-rows (p .rules) n s 416 rules few bits (omega arith) (b .rows)))

@@ -3,3 +3,4 @@ pub mod Numbers
 pub mod Pairs
 pub mod Stores
 pub mod Fillings
+pub mod Chaining

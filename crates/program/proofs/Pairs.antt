@@ -1,17 +1,16 @@
--- "the first beats the second": the mask of the rules that a rule beats has the bits of those that the pairs list, and no
--- other.
+-- "the first beats the second": the mask of the rules that a rule beats by a listed pair has the bits of those that the pairs
+-- list, and no other.
 use mathlib.Core.Path.{_≡_, refl, sym, ap, _∙_}
-use mathlib.Core.List.{List, [], _∷_, List·Memᴰ, List·Memᴰ·head, List·Memᴰ·tail, Memᴰ·cast}
+use mathlib.Core.List.{List, [], _∷_, List·Memᴰ, List·Memᴰ·head, List·Memᴰ·tail}
 use mathlib.Core.Bool.{Bool, true, false, false≢true}
-use mathlib.Core.Logic.{_⊎_, inl, inr, _↔_}
+use mathlib.Core.Logic.{_⊎_, inl, inr}
 use Prim.Native.Nat.{ℕ}
 use lib.Dec.{eqb}
 use borrow.Author.Tests.{eqb-true, eq-eqb}
 use Rattle.literals.specs.Sets.{has, choose, insert}
 use Rattle.literals.proofs.Members.{has-empty, has-insert-same, insert-cases, insert-keeps}
-use Rattle.program.specs.Program.{Rule, Program, bitOf, beatenFrom, beaten}
-use Rattle.program.specs.Limits.{DefeasibleAt, Limits}
-use Rattle.program.proofs.Numbers.{bit-of-same}
+use Rattle.program.specs.Program.{Rule, Program, bitOf}
+use Rattle.program.specs.inside.Filling.{listedFrom, listedMask}
 
 -- ---- added to a mask, pair by pair
 
@@ -44,13 +43,13 @@ module _ (l : List Rule) (a : ℕ) where
       go true e g = listed (eqb-true (q .0) a e) (insert-cases m (bitOf l (q .1)) k g)
       go false e g = inl g
 
-  all-keeps : (m k : ℕ) (ps : List (ℕ × ℕ)) → has m k ≡ true → has (beatenFrom l a m ps) k ≡ true
-  unfolding beatenFrom
+  all-keeps : (m k : ℕ) (ps : List (ℕ × ℕ)) → has m k ≡ true → has (listedFrom l a m ps) k ≡ true
+  unfolding listedFrom
   all-keeps m k [] h = h
   all-keeps m k (q ∷ ps) h = all-keeps (after m q) k ps (after-keeps m k q h)
 
-  all-has : (m b : ℕ) (ps : List (ℕ × ℕ)) → List·Memᴰ (a, b) ps → has (beatenFrom l a m ps) (bitOf l b) ≡ true
-  unfolding beatenFrom
+  all-has : (m b : ℕ) (ps : List (ℕ × ℕ)) → List·Memᴰ (a, b) ps → has (listedFrom l a m ps) (bitOf l b) ≡ true
+  unfolding listedFrom
   all-has m b (q ∷ ps) (List·Memᴰ·head e) =
       all-keeps (after m q) (bitOf l b) ps (ap (λ (x : ℕ × ℕ). has (after m x) (bitOf l b)) (sym e) ∙ after-has m b)
   all-has m b (q ∷ ps) (List·Memᴰ·tail i) = all-has (after m q) b ps i
@@ -59,8 +58,8 @@ module _ (l : List Rule) (a : ℕ) where
   abbrev Listed : List (ℕ × ℕ) → ℕ → Type 0
   Listed ps k = (b : ℕ) × List·Memᴰ (a, b) ps × (bitOf l b ≡ k)
 
-  all-found : (m k : ℕ) (ps : List (ℕ × ℕ)) → has (beatenFrom l a m ps) k ≡ true → (has m k ≡ true) ⊎ Listed ps k
-  unfolding beatenFrom
+  all-found : (m k : ℕ) (ps : List (ℕ × ℕ)) → has (listedFrom l a m ps) k ≡ true → (has m k ≡ true) ⊎ Listed ps k
+  unfolding listedFrom
   all-found m k [] h = inl h
   all-found m k (q ∷ ps) h = go (all-found (after m q) k ps h)
     where
@@ -76,21 +75,14 @@ module _ (l : List Rule) (a : ℕ) where
 
 module _ (p : Program) (a : ℕ) where
   -- each bit of the mask is that of a rule that is listed as beaten
-  pub beaten-found : (k : ℕ) → has (beaten p a) k ≡ true
+  pub listed-found : (k : ℕ) → has (listedMask p a) k ≡ true
       → (b : ℕ) × List·Memᴰ (a, b) (p .pairs) × (bitOf (p .rules) b ≡ k)
-  beaten-found k h = go (all-found (p .rules) a 0 k (p .pairs) h)
+  listed-found k h = go (all-found (p .rules) a 0 k (p .pairs) h)
     where
       go : (has 0 k ≡ true) ⊎ Listed (p .rules) a (p .pairs) k → Listed (p .rules) a (p .pairs) k
       go (inl e) = absurd (false≢true (sym (has-empty k) ∙ e))
       go (inr f) = f
 
-  -- within the limits no two rules share a bit: the mask has a defeasible rule's bit exactly if the pair is listed
-  pub beaten-exact : Limits p → {b : ℕ} → DefeasibleAt (p .rules) b
-      → (has (beaten p a) (bitOf (p .rules) b) ≡ true) ↔ List·Memᴰ (a, b) (p .pairs)
-  beaten-exact limits {b} d =
-      (λ h. only (beaten-found (bitOf (p .rules) b) h), λ i. all-has (p .rules) a 0 b (p .pairs) i)
-    where
-      only : Listed (p .rules) a (p .pairs) (bitOf (p .rules) b) → List·Memᴰ (a, b) (p .pairs)
-      only (c, i, e) =
-          let same : c ≡ b = bit-of-same (p .rules) (limits .pairs-name a c i .second) d e in
-          Memᴰ·cast (ap (λ (x : ℕ). (a, x)) (sym same)) i
+  -- and the bit of each such rule is there
+  pub listed-has : (b : ℕ) → List·Memᴰ (a, b) (p .pairs) → has (listedMask p a) (bitOf (p .rules) b) ≡ true
+  listed-has b i = all-has (p .rules) a 0 b (p .pairs) i

@@ -4,9 +4,8 @@ use mathlib.Core.Bool.{Bool, true, false, _&&_, _||_, not}
 use mathlib.Core.List.{List, [], _∷_}
 use Prim.Native.Nat.{ℕ, zero, suc, _^_}
 use lib.ListN.{getD, take}
-use lib.Dec.{eqb}
 use Rattle.lists.specs.Lists.{keep}
-use Rattle.literals.specs.Sets.{has, choose, insert}
+use Rattle.literals.specs.Sets.{has}
 
 -- "a kind byte (0 strict, 1 defeasible)"
 pub data Kind : Type 0 where
@@ -73,13 +72,3 @@ abbrev pub Π-mask : ℕ → List Rule → List Rule
 -- Π alone
 abbrev pub Π : List Rule → List Rule
 Π l = Π-with (λ _. false) l
-
--- "the first beats the second": the bits of the rules that rule a beats by one of some pairs, added to a mask
-unfoldable pub beatenFrom : List Rule → ℕ → ℕ → List (ℕ × ℕ) → ℕ
-unfolding insert
-beatenFrom l a m [] = m
-beatenFrom l a m (p ∷ ps) = beatenFrom l a (choose (eqb (p .0) a) (insert m (bitOf l (p .1))) m) ps
-
--- the mask of the rules that rule a beats
-abbrev pub beaten : Program → ℕ → ℕ
-beaten p a = beatenFrom (p .rules) a 0 (p .pairs)

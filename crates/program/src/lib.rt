@@ -6,6 +6,8 @@ ghost use Rattle.program.specs.inside.Table.{headAt, bodyAt, needAt, rul
 ghost use Rattle.program.specs.inside.Store.{withRow, withBit, withBeaten, withCounts};
 use literals::LiteralSet;
 
+pub mod chain;
+
 pub type RuleTable = [u64; 419];
 
 // The head of rule i.

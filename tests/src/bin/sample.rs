@@ -10,7 +10,7 @@ use std::process::ExitCode;
 use foqtirel_binding::raw::{foqtirel_list, foqtirel_trees};
 use foqtirel_binding::{answered, answered_with_trees, check, granted, query, Node};
 use foqtirel_tests::generator::accepted::small_programs;
-use foqtirel_tests::generator::{accepted, damaged};
+use foqtirel_tests::generator::{accepted, chained, damaged};
 use foqtirel_tests::reference::image::defeasible_rules;
 use foqtirel_tests::vectors;
 
@@ -57,7 +57,7 @@ fn run(counts: &mut Counts) {
         ask(&image, 127, 7, 1, counts);
     }
     let programs = accepted(SEED, 60).chain(small_programs(SEED, 40));
-    for (turn, case) in programs.enumerate() {
+    for (turn, case) in programs.chain(chained(SEED, 22)).enumerate() {
         if defeasible_rules(&case.image) <= MOST_RULES {
             for literal in [0, 3, 4, turn as u32] {
                 ask(&case.image, literal, 4096, turn % 3, counts);

@@ -128,7 +128,7 @@ fn shaped(random: &mut Random, measure: fn(&mut Random) -> Shape) -> Case {
     finish(random, shape.name, shape.atoms, rules, shape.pairs)
 }
 
-fn fact(head: u8) -> RuleText {
+pub(super) fn fact(head: u8) -> RuleText {
     RuleText {
         defeasible: false,
         head,
@@ -182,12 +182,20 @@ fn connected(
     None
 }
 
-/// One atom with many arguments on both sides.
-///
+/// The rules of a program with one atom that has many arguments on both sides.
+pub(super) struct Contest {
+    pub atoms: usize,
+    pub rules: Vec<RuleText>,
+    /// The literals of each side.
+    pub sides: [Vec<u8>; 2],
+    /// Chance of each possible pair, in a hundred.
+    pairs: usize,
+}
+
 /// Each side has literals of its own, reached by defeasible rules from the facts, and rules that
 /// lead from some of them to the contested literal. A side's arguments go together, so the
 /// lines grow long wherever the pairs allow it.
-fn contested(random: &mut Random, most_per_side: usize) -> Case {
+pub(super) fn contest(random: &mut Random, most_per_side: usize) -> Contest {
     let facts = random.between(1, 3);
     let fewest_per_side = most_per_side.div_ceil(2);
     let sizes = [
@@ -213,9 +221,8 @@ fn contested(random: &mut Random, most_per_side: usize) -> Case {
     }
     let mut defeasible_left = 16;
     let mut next_atom = facts;
-    let mut sides: Vec<Vec<u8>> = Vec::new();
-    for size in sizes {
-        let mut side = Vec::new();
+    let mut sides = [Vec::new(), Vec::new()];
+    for (side, size) in sides.iter_mut().zip(sizes) {
         for _ in 0..size {
             let head = literal(random, next_atom);
             next_atom += 1;
@@ -232,7 +239,6 @@ fn contested(random: &mut Random, most_per_side: usize) -> Case {
             rules.push(rule);
             defeasible_left -= 1;
         }
-        sides.push(side);
     }
     let at_stake = literal(random, next_atom);
     for (side, head) in sides.iter().zip([at_stake, at_stake ^ 1]) {
@@ -284,8 +290,23 @@ fn contested(random: &mut Random, most_per_side: usize) -> Case {
         let defeasible = more >= shape.strict;
         rules.extend(connected(random, &mut supply, &heads, defeasible, &shape));
     }
+    Contest {
+        atoms,
+        rules,
+        sides,
+        pairs: shape.pairs,
+    }
+}
+
+fn contested(random: &mut Random, most_per_side: usize) -> Case {
+    let Contest {
+        atoms,
+        mut rules,
+        sides,
+        pairs,
+    } = contest(random, most_per_side);
     if random.chance(40) {
-        return finish(random, shape.name, shape.atoms, rules, shape.pairs);
+        return finish(random, "contested", atoms, rules, pairs);
     }
     // Pairs between the sides only, so that many arguments are preferred over another.
     random.shuffle(&mut rules);
@@ -305,7 +326,7 @@ fn contested(random: &mut Random, most_per_side: usize) -> Case {
             }
         }
     }
-    case(shape.name, shape.atoms, rules, pairs, (0, 0))
+    case("contested", atoms, rules, pairs, (0, 0))
 }
 
 /// Long chains of strict and of defeasible rules in the order that suits derivation least.
@@ -389,19 +410,27 @@ fn finish(
 }
 
 fn random_pairs(random: &mut Random, rules: &[RuleText], percent: usize) -> Vec<(u8, u8)> {
+    let numbers: Vec<u8> = (0..rules.len())
+        .filter(|&number| rules[number].defeasible)
+        .map(|number| number as u8)
+        .collect();
+    some_pairs(random, &numbers, percent)
+}
+
+/// Each pair of two of the rules with the given chance in a hundred.
+pub(super) fn some_pairs(random: &mut Random, rules: &[u8], percent: usize) -> Vec<(u8, u8)> {
     let mut pairs = Vec::new();
-    for first in 0..rules.len() {
-        for second in 0..rules.len() {
-            let both_defeasible = rules[first].defeasible && rules[second].defeasible;
-            if first != second && both_defeasible && random.chance(percent) {
-                pairs.push((first as u8, second as u8));
+    for &first in rules {
+        for &second in rules {
+            if first != second && random.chance(percent) {
+                pairs.push((first, second));
             }
         }
     }
     pairs
 }
 
-fn case(
+pub(super) fn case(
     name: &str,
     atoms: usize,
     rules: Vec<RuleText>,

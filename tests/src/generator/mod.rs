@@ -1,6 +1,7 @@
 //! Seeded images: sound programs of many shapes, and images damaged on purpose.
 
 pub mod accepted;
+pub mod chained;
 pub mod damage;
 pub mod description;
 pub mod limits;
@@ -12,6 +13,7 @@ pub mod soundrules;
 pub mod spoil;
 
 pub use accepted::accepted;
+pub use chained::{chained, chained_sixteen};
 pub use description::{Description, Parts, RuleText};
 pub use listing::{all_applicable, many_arguments, MANY_ARGUMENTS};
 pub use random::Random;

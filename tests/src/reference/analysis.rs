@@ -59,6 +59,15 @@ impl Analysis {
         }
     }
 
+    /// The same program with other rules beating each other.
+    pub fn with(self, preference: Preference) -> Analysis {
+        Analysis {
+            preference,
+            kept: RefCell::default(),
+            ..self
+        }
+    }
+
     /// The argument list as written into the lent table.
     pub fn entries(&self) -> Vec<u32> {
         self.arguments.iter().map(|a| a.entry()).collect()

@@ -38,28 +38,49 @@ impl Exclusion {
     }
 }
 
-/// The preference pairs, as bits of masks. They count one by one and are never chained.
+/// Which rules beat which: a chain of one or more listed pairs leads from the first to the second.
 pub struct Preference {
-    pairs: Vec<(usize, usize)>,
+    /// For each defeasible rule, by its bit, the set of all rules that it beats.
+    pub beaten: Vec<Mask>,
 }
 
 impl Preference {
     pub fn of(program: &Program) -> Preference {
+        let numbers = program.defeasible_numbers();
         Preference {
-            pairs: program.pairs_of_bits(),
+            beaten: numbers
+                .iter()
+                .map(|&rule| program.mask_of(&ends_of_chains(rule, &program.pairs)))
+                .collect(),
         }
     }
 
-    /// True if some rule of the first mask beats some rule of the second by a listed pair.
+    /// True if some rule of the first mask beats some rule of the second.
     pub fn some_rule_beats(&self, first: Mask, second: Mask) -> bool {
-        self.pairs
+        self.beaten
             .iter()
-            .any(|&(winner, loser)| first >> winner & 1 == 1 && second >> loser & 1 == 1)
+            .enumerate()
+            .any(|(bit, &beaten)| first >> bit & 1 == 1 && beaten & second != 0)
     }
 
     pub fn preferred(&self, x: Argument, z: Argument) -> bool {
         self.some_rule_beats(x.mask, z.mask) && !self.some_rule_beats(z.mask, x.mask)
     }
+}
+
+/// The numbers of all rules to which a chain of one or more listed pairs leads from a rule. The
+/// rule itself is among them only if a chain comes back to it.
+fn ends_of_chains(rule: usize, pairs: &[(usize, usize)]) -> BTreeSet<usize> {
+    let mut ends = BTreeSet::new();
+    let mut to_follow = vec![rule];
+    while let Some(last) = to_follow.pop() {
+        for &(winner, loser) in pairs {
+            if winner == last && ends.insert(loser) {
+                to_follow.push(loser);
+            }
+        }
+    }
+    ends
 }
 
 /// The sub-arguments of one argument, put together by what each literal attacks among them.

@@ -1,5 +1,7 @@
 //! Programs as plain data.
 
+use std::collections::BTreeSet;
+
 use super::literal::Literal;
 
 #[derive(Clone, Copy, Debug, PartialEq, Eq)]
@@ -20,7 +22,7 @@ pub struct Rule {
 pub struct Program {
     pub atoms: usize,
     pub rules: Vec<Rule>,
-    /// Rule numbers: the first beats the second.
+    /// The listed pairs, of rule numbers: the first beats the second.
     pub pairs: Vec<(usize, usize)>,
 }
 
@@ -54,19 +56,14 @@ impl Program {
         chosen
     }
 
-    /// The preference pairs with bits in place of rule numbers.
-    pub fn pairs_of_bits(&self) -> Vec<(usize, usize)> {
-        let numbers = self.defeasible_numbers();
-        let bit = |number: usize| {
-            numbers
-                .iter()
-                .position(|&other| other == number)
-                .expect("pairs name defeasible rules only")
-        };
-        self.pairs
-            .iter()
-            .map(|&(first, second)| (bit(first), bit(second)))
-            .collect()
+    /// The mask of those defeasible rules whose numbers are given.
+    pub fn mask_of(&self, rules: &BTreeSet<usize>) -> Mask {
+        self.defeasible_numbers()
+            .into_iter()
+            .enumerate()
+            .filter(|(_, number)| rules.contains(number))
+            .map(|(bit, _)| 1 << bit)
+            .sum()
     }
 
     /// True if the literal's atom is in the head or body of some rule, with either sign.

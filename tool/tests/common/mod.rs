@@ -1,8 +1,11 @@
-//! Running the program, and work that calls the engine on a stack that is large enough.
+//! Running the program, work that calls the engine on a stack that is large enough, and chance.
 #![allow(dead_code)]
 
 use std::path::{Path, PathBuf};
 use std::process::{Command, Output};
+
+use foqtirel::engine;
+use foqtirel::explain::{self, Told};
 
 pub struct Ran {
     pub status: i32,
@@ -52,6 +55,40 @@ pub fn with_stack(work: fn()) {
         .unwrap()
         .join()
         .unwrap();
+}
+
+/// A small generator with a seed, so that every run tries the same programs.
+pub struct Random(pub u64);
+
+impl Random {
+    pub fn below(&mut self, bound: usize) -> usize {
+        self.0 = self
+            .0
+            .wrapping_mul(6364136223846793005)
+            .wrapping_add(1442695040888963407);
+        ((self.0 >> 33) as usize) % bound
+    }
+}
+
+/// The defeaters in the trees of all literals of an image, none where it is refused. Each has words for what it
+/// attacks and why, and they fit its kind.
+pub fn defeaters(image: &[u8], name: &str) -> Vec<Told> {
+    let mut defeaters = Vec::new();
+    let Ok(arguments) = engine::list(image) else {
+        return defeaters;
+    };
+    let program = foqtirel::image::decode(image).unwrap();
+    for literal in 0..2 * program.atoms.len() as u32 {
+        let verdict = engine::query(image, literal, engine::MOST_NODES).unwrap();
+        let told = explain::tell(&program, &arguments, &verdict).into_iter();
+        for node in told.filter(|node| !node.root) {
+            let said = !node.attacks.is_empty()
+                && (node.because.contains("neither is preferred") != node.proper);
+            assert!(said, "{name} {literal} {}", node.conclusion);
+            defeaters.push(node);
+        }
+    }
+    defeaters
 }
 
 /// A directory of this test's own, to write into.

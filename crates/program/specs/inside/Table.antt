@@ -5,9 +5,10 @@ use mathlib.Core.Bool.{Bool, true, false}
 use mathlib.Core.List.{List}
 use Prim.Native.Nat.{ℕ, _+_, _*_, _^_, _<_, _≤_}
 use lib.ListN.{length, getD}
-use Rattle.literals.specs.Sets.{insertAll}
+use Rattle.literals.specs.Sets.{has, insertAll}
 use Rattle.literals.specs.inside.Words.{joined}
-use Rattle.program.specs.Program.{Kind, strict, defeasible, Rule, Program, isDefeasible, defeasibles, bitOf, ruleAt, beaten}
+use Rattle.program.specs.Program.{Kind, strict, defeasible, Rule, Program, isDefeasible, defeasibles, bitOf, ruleAt}
+use Rattle.program.specs.Beats.{Beats}
 
 -- four words a rule: its head, its body as a set in two words, its need
 abbrev pub headAt : List ℕ → ℕ → ℕ
@@ -47,6 +48,11 @@ pub record Row (r : Rule) (b : ℕ) (t : List ℕ) (i : ℕ) : Type 0 where
   pub body-is : bodyAt t i ≡ insertAll 0 (r .body)
   pub need-is : needAt t i ≡ needOf (r .kind) b
 
+-- the mask m has the bits of the rules that rule a beats, and no other
+pub record BeatenMask (p : Program) (a m : ℕ) : Type 0 where
+  pub found : (k : ℕ) → has m k ≡ true → (b : ℕ) × Beats p a b × (bitOf (p .rules) b ≡ k)
+  pub each : {b : ℕ} → Beats p a b → has m (bitOf (p .rules) b) ≡ true
+
 -- the table holds the program
 pub record Holds (p : Program) (t : List ℕ) : Type 0 where
   pub rules-are : ruleCount t ≡ length (p .rules)
@@ -54,7 +60,7 @@ pub record Holds (p : Program) (t : List ℕ) : Type 0 where
   pub atoms-are : atomCount t ≡ p .atoms
   pub row : (i : ℕ) → i < length (p .rules) → Row (ruleAt (p .rules) i) (bitOf (p .rules) i) t i
   pub rule-of : (i : ℕ) → i < length (p .rules) → isDefeasible (ruleAt (p .rules) i .kind) ≡ true → ruleOfBit t (bitOf (p .rules) i) ≡ i
-  pub beaten-is : (i : ℕ) → i < length (p .rules) → isDefeasible (ruleAt (p .rules) i .kind) ≡ true → beatenAt t (bitOf (p .rules) i) ≡ beaten p i
+  pub beaten-is : (i : ℕ) → i < length (p .rules) → isDefeasible (ruleAt (p .rules) i .kind) ≡ true → BeatenMask p i (beatenAt t (bitOf (p .rules) i))
 
 -- what the table of each accepted program is like: 96 rules at most, and the head of each is one of the 128 literals
 pub record Shaped (t : List ℕ) : Type 0 where

@@ -16,6 +16,7 @@ const MOST_SLOW: usize = 40;
 pub enum Source {
     Program,
     Contested,
+    Chained,
     Damaged,
     Vector,
 }
@@ -24,6 +25,8 @@ pub enum Source {
 pub struct Images {
     /// Random programs that are accepted, by their number of defeasible rules.
     programs: [usize; 17],
+    /// Programs whose listed pairs form chains.
+    chained: usize,
     damaged: usize,
     vectors: usize,
     slow_programs: usize,
@@ -39,7 +42,7 @@ impl Images {
             Source::Program => few_of(&mut self.slow_programs, defeasible),
             Source::Damaged => few_of(&mut self.slow_damaged, defeasible),
             Source::Contested => defeasible <= MOST_CONTESTED,
-            Source::Vector => true,
+            Source::Chained | Source::Vector => true,
         };
         self.left_out += usize::from(!admitted);
         admitted
@@ -49,9 +52,14 @@ impl Images {
         match source {
             Source::Program | Source::Contested if accepted => self.programs[defeasible] += 1,
             Source::Program | Source::Contested => {}
+            Source::Chained => self.chained += usize::from(accepted),
             Source::Damaged => self.damaged += 1,
             Source::Vector => self.vectors += 1,
         }
+    }
+
+    pub fn chained(&self) -> usize {
+        self.chained
     }
 
     pub fn damaged(&self) -> usize {

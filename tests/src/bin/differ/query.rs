@@ -6,7 +6,7 @@
 
 use foqtirel_binding as library;
 use foqtirel_tests::generator::accepted::{contested_programs, small_programs};
-use foqtirel_tests::generator::{accepted, damaged, Case, Random};
+use foqtirel_tests::generator::{accepted, chained, chained_sixteen, damaged, Case, Random};
 use foqtirel_tests::reference::tree::{Forest, NodeEntry};
 use foqtirel_tests::reference::{
     host_number, Analysis, Answer, Argument, Literal, Refusal, MOST_NODES,
@@ -22,6 +22,9 @@ const MIXED: usize = 8_500;
 const SMALL: usize = 1_500;
 /// Programs with large trees, by how many rules each side has at most.
 const CONTESTED: [(usize, usize); 2] = [(6, 1_200), (7, 800)];
+/// Programs whose listed pairs form chains, and those with sixteen rules in one.
+const CHAINED: usize = 2_200;
+const CHAINED_SIXTEEN: usize = 12;
 /// Some of these are left out as slow.
 const DAMAGED: usize = 20_200;
 /// With at most so many defeasible rules a program is asked about all its literals; with each
@@ -43,6 +46,9 @@ pub fn compare(seed: u64, report: &mut QueryReport) {
         let programs = contested_programs(seed ^ 0x636F_6E74, count, most_per_side);
         compare_cases(Source::Contested, programs, &mut random, report);
     }
+    let chained = chained(seed ^ 0x6368_6169, CHAINED);
+    let chained = chained.chain(chained_sixteen(!seed, CHAINED_SIXTEEN));
+    compare_cases(Source::Chained, chained, &mut random, report);
     let damaged = damaged(seed ^ 0x6461_6D61, DAMAGED);
     compare_cases(Source::Damaged, damaged, &mut random, report);
     for image in vectors::images() {

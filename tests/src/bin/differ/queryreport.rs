@@ -8,6 +8,7 @@ use crate::images::Images;
 use crate::report::Faults;
 
 const LEAST_PROGRAMS: usize = 10_000;
+const LEAST_CHAINED: usize = 2_000;
 const LEAST_DAMAGED: usize = 20_000;
 /// Each size of forest must be seen so often.
 const LEAST_FORESTS: usize = 100;
@@ -147,6 +148,9 @@ impl QueryReport {
             "query: {} programs asked about all their literals; {} pairs that exclude each other with YES to one, {} with YES to both",
             self.asked_wholly, self.kept_apart, self.both_granted
         );
+        let chained = self.images.chained();
+        println!("query: {chained} programs with chains of listed pairs");
+        faults.demand("enough programs with chains", chained >= LEAST_CHAINED);
         let damaged = self.images.damaged();
         faults.demand("enough damaged images", damaged >= LEAST_DAMAGED);
         faults.demand("each literal 0 to 130", least > 0);

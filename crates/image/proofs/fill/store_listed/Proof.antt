@@ -1,4 +1,4 @@
--- Rule by rule, each with the mask of those it beats.
+-- Rule by rule, each with the mask of those it beats by a listed pair.
 use mathlib.Core.Path.{_≡_, refl, sym, ap, subst, _∙_}
 use mathlib.Core.Bool.{Bool, true, false}
 use mathlib.Core.List.{List}
@@ -8,9 +8,9 @@ use native.Mathlib.Nat.{le-refl}
 use lib.ListN.{length, length-set}
 use lib.Dec.{eqb}
 use borrow.Author.Tests.{not-true, not-false}
-use Rattle.program.specs.Program.{Kind, Rule, nextBit, defeasiblesFrom, bitOf, beatenFrom}
+use Rattle.program.specs.Program.{Kind, Rule, nextBit, defeasiblesFrom, bitOf}
 use Rattle.program.specs.inside.Store.{withBeaten}
-use Rattle.program.specs.inside.Filling.{RowsTo, BeatenTo}
+use Rattle.program.specs.inside.Filling.{RowsTo, listedFrom, ListedTo}
 use Rattle.layout.specs.declared.Verdict.the-variants.{Accepted}
 use Rattle.layout.specs.Layout.{rulesOf, pairsOf, partOf, kindByte}
 use Rattle.layout.specs.Causes.{verdict}
@@ -19,14 +19,14 @@ use Rattle.layout.specs.inside.Steps.{Named, BitsAt}
 use Rattle.layout.proofs.Parts.{parts-fewer, located-order, located-inside, located-part}
 use Rattle.image.proofs.EachRule.{kind-defeasible, kind-strict}
 use Rattle.image.proofs.Accepted.{Sound, accepted-sound, Fillable, accepted-fillable}
-use Rattle.image.proofs.Beaten.{second-named, bits-at, beaten-start, beaten-strict, beaten-defeasible}
+use Rattle.image.proofs.Beaten.{second-named, bits-at, listed-start, listed-strict, listed-defeasible}
 use borrow.Author.Needs.{needs}
 use native.Mathlib.Omega.{arith}
-use Rattle.image.proofs.fill.store_beaten.Statement.{statement}
-use Rattle.image.proofs.fill.store_beaten.Tie as tie
+use Rattle.image.proofs.fill.store_listed.Statement.{statement}
+use Rattle.image.proofs.fill.store_listed.Tie as tie
 
 abbrev Inv-loop : tie.InvT-loop
-Inv-loop table₀ image rules count start end pairs bit₀ i₀ table bit i = (bit ≡ bitOf (rulesIn image 0 rules) i) × (length table ≡ length table₀) × (length table₀ ≡ 419 → RowsTo (rulesIn image 0 rules) rules table₀ → BeatenTo (programIn image) i table) × (i ≤ rules)
+Inv-loop table₀ image rules count start end pairs bit₀ i₀ table bit i = (bit ≡ bitOf (rulesIn image 0 rules) i) × (length table ≡ length table₀) × (length table₀ ≡ 419 → RowsTo (rulesIn image 0 rules) rules table₀ → ListedTo (programIn image) i table) × (i ≤ rules)
 
 abbrev μ-loop : tie.MeasureT-loop
 μ-loop table₀ image rules count start end pairs bit₀ i₀ table bit i = rules - i
@@ -45,12 +45,12 @@ module _ (s : List ℕ) (n count : ℕ) (accepted : verdict s ≡ Accepted) (is 
       let q : pairs ≡ partOf s (rulesOf s) = p ∙ ap (partOf s) is in
       (omega arith, ap (λ (l : List ℕ). length l) q ∙ sound .pairs-size ∙ ap (λ (k : ℕ). 2 * k) (sym many), rw (q, many) (second-named s accepted))
 
-  mask-is : (t pairs : List ℕ) (i mask : ℕ) → pairs ≡ partOf s n → BeatenTo (programIn s) i t → ((z : List ℕ) (l : List Rule) → pairs ≡ partOf z (rulesOf z) → BitsAt l t pairs count → mask ≡ beatenFrom l i 0 (pairsIn z 0 count)) → mask ≡ beatenFrom (rulesIn s 0 (rulesOf s)) i 0 (pairsIn s 0 (pairsOf s))
+  mask-is : (t pairs : List ℕ) (i mask : ℕ) → pairs ≡ partOf s n → ListedTo (programIn s) i t → ((z : List ℕ) (l : List Rule) → pairs ≡ partOf z (rulesOf z) → BitsAt l t pairs count → mask ≡ listedFrom l i 0 (pairsIn z 0 count)) → mask ≡ listedFrom (rulesIn s 0 (rulesOf s)) i 0 (pairsIn s 0 (pairsOf s))
   unfolding programIn
   mask-is t pairs i mask p b e =
       let q : pairs ≡ partOf s (rulesOf s) = p ∙ ap (partOf s) is in
       e s (rulesIn s 0 (rulesOf s)) q (rw (q, many) (bits-at s accepted t (b .rows)))
-      ∙ ap (λ (k : ℕ). beatenFrom (rulesIn s 0 (rulesOf s)) i 0 (pairsIn s 0 k)) many
+      ∙ ap (λ (k : ℕ). listedFrom (rulesIn s 0 (rulesOf s)) i 0 (pairsIn s 0 k)) many
 
 locate-requires : tie.Need-locate-requires Inv-loop μ-loop
 locate-requires c κs = let f = accepted-fillable _ _ (c .before .pre .0) (c .before .pre .1) in let few = f .few in (f .parts, omega arith)
@@ -66,7 +66,7 @@ part-pairs-end c = let f = accepted-fillable _ _ (c .before .before .pre .0) (c 
 
 loop-holds : tie.Need-loop-holds Inv-loop μ-loop
 unfolding defeasiblesFrom
-loop-holds c = (refl, refl, λ z r. beaten-start _ (c .before .before .before .pre .0) _ (c .before .before .before .pre .1) _ r, omega arith)
+loop-holds c = (refl, refl, λ z r. listed-start _ (c .before .before .before .pre .0) _ (c .before .before .before .pre .1) _ r, omega arith)
 
 locate-requires-2 : tie.Need-locate-requires-2 Inv-loop μ-loop
 locate-requires-2 c κs = let f = accepted-fillable _ _ (c .before .before .before .before .before .pre .0) (c .before .before .before .before .before .pre .1) in let few = f .few in (parts-fewer _ _ _ (f .parts) (omega arith), omega arith)
@@ -97,12 +97,12 @@ loop-again c =
     let e : eqb (kindByte (partOf s (l .i))) 1 ≡ false = ap (λ (q : List ℕ). eqb (kindByte q) 1) (sym p) ∙ sym (c .before .defeasible .ensures) ∙ not-true _ (c .if1 .taken) in (
       bit-after s (c .before .before .before .before .before .before .before .before .before .args .rules) (c .before .before .before .before .before .before .before .before .before .args .count) (c .before .before .before .before .before .before .before .before .before .pre .0) (c .before .before .before .before .before .before .before .before .before .pre .1) (c .before .before .before .before .before .before .before .before .before .pre .2) (l .i) (l .bit) false _ (omega arith) (l .inv .0) (kind-strict (partOf s (l .i)) e),
       l .inv .1,
-      λ z r. rw (add-one (l .i)) (beaten-strict s (c .before .before .before .before .before .before .before .before .before .pre .0) (c .before .before .before .before .before .before .before .before .before .args .rules) (c .before .before .before .before .before .before .before .before .before .pre .1) (l .i) (omega arith) _ (l .inv .2 z r) e),
+      λ z r. rw (add-one (l .i)) (listed-strict s (c .before .before .before .before .before .before .before .before .before .pre .0) (c .before .before .before .before .before .before .before .before .before .args .rules) (c .before .before .before .before .before .before .before .before .before .pre .1) (l .i) (omega arith) _ (l .inv .2 z r) e),
       omega arith,
     )
 
-beaten-mask-requires : tie.Need-beaten-mask-requires Inv-loop μ-loop
-beaten-mask-requires c κs = named _ _ _ (c .before .before .before .before .before .before .before .before .before .before .pre .0) (c .before .before .before .before .before .before .before .before .before .before .pre .1) (c .before .before .before .before .before .before .before .before .before .before .pre .2) _ (located-part _ _ _ _ (c .before .before .before .before .before .before .before .before .locate .ensures))
+listed-mask-requires : tie.Need-listed-mask-requires Inv-loop μ-loop
+listed-mask-requires c κs = named _ _ _ (c .before .before .before .before .before .before .before .before .before .before .pre .0) (c .before .before .before .before .before .before .before .before .before .before .pre .1) (c .before .before .before .before .before .before .before .before .before .before .pre .2) _ (located-part _ _ _ _ (c .before .before .before .before .before .before .before .before .locate .ensures))
 
 store-beaten-requires : tie.Need-store-beaten-requires Inv-loop μ-loop
 store-beaten-requires c κs =
@@ -132,8 +132,8 @@ loop-again-2 c =
       λ z r.
           let b = l .inv .2 z r in
           rw (add-one (l .i))
-          (beaten-defeasible s (c .before .before .before .before .before .before .before .before .before .before .before .before .before .pre .0) (c .before .before .before .before .before .before .before .before .before .before .before .before .before .args .rules) (c .before .before .before .before .before .before .before .before .before .before .before .before .before .pre .1) (l .i) (omega arith) _ b _ (l .bit) _ (l .inv .1 ∙ z) e (l .inv .0)
-          (mask-is s (c .before .before .before .before .before .before .before .before .before .before .before .before .before .args .rules) (c .before .before .before .before .before .before .before .before .before .before .before .before .before .args .count) (c .before .before .before .before .before .before .before .before .before .before .before .before .before .pre .0) (c .before .before .before .before .before .before .before .before .before .before .before .before .before .pre .1) (c .before .before .before .before .before .before .before .before .before .before .before .before .before .pre .2) _ _ (l .i) _ (located-part _ _ _ _ (c .before .before .before .before .before .before .before .before .before .before .before .locate .ensures)) b (c .before .before .beaten-mask .ensures))
+          (listed-defeasible s (c .before .before .before .before .before .before .before .before .before .before .before .before .before .pre .0) (c .before .before .before .before .before .before .before .before .before .before .before .before .before .args .rules) (c .before .before .before .before .before .before .before .before .before .before .before .before .before .pre .1) (l .i) (omega arith) _ b _ (l .bit) _ (l .inv .1 ∙ z) e (l .inv .0)
+          (mask-is s (c .before .before .before .before .before .before .before .before .before .before .before .before .before .args .rules) (c .before .before .before .before .before .before .before .before .before .before .before .before .before .args .count) (c .before .before .before .before .before .before .before .before .before .before .before .before .before .pre .0) (c .before .before .before .before .before .before .before .before .before .before .before .before .before .pre .1) (c .before .before .before .before .before .before .before .before .before .before .before .before .before .pre .2) _ _ (l .i) _ (located-part _ _ _ _ (c .before .before .before .before .before .before .before .before .before .before .before .locate .ensures)) b (c .before .before .listed-mask .ensures))
           (c .store-beaten .ensures)),
       omega arith,
     )
@@ -143,10 +143,10 @@ returns c =
     let l = c .before .loop in
     let i = l .inv .3 in
     let all : l .i ≡ c .before .before .before .before .before .args .rules = omega arith in
-    (l .inv .1, λ z r. subst (λ (n : ℕ). BeatenTo (programIn (c .before .before .before .before .before .args .image .now)) n (l .table)) all (l .inv .2 z r))
+    (l .inv .1, λ z r. subst (λ (n : ℕ). ListedTo (programIn (c .before .before .before .before .before .args .image .now)) n (l .table)) all (l .inv .2 z r))
 
-pub store-beaten-spec : {M : Type 1} → statement M
-store-beaten-spec =
+pub store-listed-spec : {M : Type 1} → statement M
+store-listed-spec =
     tie.close
     (tie.spec
     Inv-loop
@@ -164,7 +164,7 @@ store-beaten-spec =
     add-i
     loop-less
     loop-again
-    beaten-mask-requires
+    listed-mask-requires
     store-beaten-requires
     add-bit
     add-i-2

@@ -7,18 +7,19 @@ use lib.ListN.{length, getD}
 use lib.Bits.{bitOr}
 use Rattle.literals.specs.Sets.{insert}
 use Rattle.literals.proofs.Members.{insert-union}
-use Rattle.program.specs.Program.{Rule, bitOf, beatenFrom}
+use Rattle.program.specs.Program.{Rule, bitOf}
+use Rattle.program.specs.inside.Filling.{listedFrom}
 use Rattle.layout.specs.Layout.{rulesOf, partOf}
 use Rattle.layout.specs.Reading.{pairsIn}
 use Rattle.layout.specs.inside.Steps.{BitsAt}
-use Rattle.image.proofs.Readings.{beaten-other, beaten-one, beaten-end}
+use Rattle.image.proofs.Readings.{listed-other, listed-one, listed-end}
 use borrow.Author.Needs.{needs}
 use native.Mathlib.Omega.{arith}
-use Rattle.image.proofs.fill.beaten_mask.Statement.{statement}
-use Rattle.image.proofs.fill.beaten_mask.Tie as tie
+use Rattle.image.proofs.fill.listed_mask.Statement.{statement}
+use Rattle.image.proofs.fill.listed_mask.Tie as tie
 
 abbrev Inv-loop : tie.InvT-loop
-Inv-loop table pairs count rule mask₀ j₀ mask j = (s : List ℕ) (l : List Rule) → pairs ≡ partOf s (rulesOf s) → BitsAt l table pairs count → beatenFrom l rule 0 (pairsIn s 0 count) ≡ beatenFrom l rule mask (pairsIn s j (count - j))
+Inv-loop table pairs count rule mask₀ j₀ mask j = (s : List ℕ) (l : List Rule) → pairs ≡ partOf s (rulesOf s) → BitsAt l table pairs count → listedFrom l rule 0 (pairsIn s 0 count) ≡ listedFrom l rule mask (pairsIn s j (count - j))
 
 abbrev μ-loop : tie.MeasureT-loop
 μ-loop table pairs count rule mask₀ j₀ mask j = count - j
@@ -44,7 +45,7 @@ loop-less c = search needs
 loop-again : tie.Need-loop-again Inv-loop μ-loop
 loop-again c =
     λ s l p b.
-    c .before .before .before .loop .inv s l p b ∙ beaten-other s l (c .before .before .before .before .before .args .rule) (c .before .before .before .loop .mask) (c .before .before .before .loop .j) (c .before .before .before .before .before .args .count) (omega arith) (λ e. c .if1 .taken (ap (λ (q : List ℕ). getD q (2 * c .before .before .before .loop .j) 0) p ∙ e))
+    c .before .before .before .loop .inv s l p b ∙ listed-other s l (c .before .before .before .before .before .args .rule) (c .before .before .before .loop .mask) (c .before .before .before .loop .j) (c .before .before .before .before .before .args .count) (omega arith) (λ e. c .if1 .taken (ap (λ (q : List ℕ). getD q (2 * c .before .before .before .loop .j) 0) p ∙ e))
 
 mul-wide : tie.Need-mul-wide Inv-loop μ-loop
 mul-wide c = search needs
@@ -75,14 +76,14 @@ loop-again-2 c =
     let two = ap (λ (q : List ℕ). getD q (2 * j + 1) 0) p in
     let is = c .need .ensures ∙ ap (λ (k : ℕ). getD (c .before .before .before .before .before .before .before .before .args .table .now) (4 * k + 3) 0) (c .before .wide .ensures) ∙ b j (omega arith) ∙ ap (λ (k : ℕ). 2 ^ bitOf l k) two in
     c .before .before .before .before .before .before .loop .inv s l p b
-    ∙ beaten-one s l (c .before .before .before .before .before .before .before .before .args .rule) m j (c .before .before .before .before .before .before .before .before .args .count) (omega arith) (sym (ap (λ (q : List ℕ). getD q (2 * j) 0) p) ∙ c .before .before .before .if1 .left)
-    ∙ ap (λ (k : ℕ). beatenFrom l (c .before .before .before .before .before .before .before .before .args .rule) k (pairsIn s (j + 1) (c .before .before .before .before .before .before .before .before .args .count - (j + 1)))) (insert-union m _ ∙ ap (bitOr m) (sym is))
+    ∙ listed-one s l (c .before .before .before .before .before .before .before .before .args .rule) m j (c .before .before .before .before .before .before .before .before .args .count) (omega arith) (sym (ap (λ (q : List ℕ). getD q (2 * j) 0) p) ∙ c .before .before .before .if1 .left)
+    ∙ ap (λ (k : ℕ). listedFrom l (c .before .before .before .before .before .before .before .before .args .rule) k (pairsIn s (j + 1) (c .before .before .before .before .before .before .before .before .args .count - (j + 1)))) (insert-union m _ ∙ ap (bitOr m) (sym is))
 
 returns : tie.Need-returns Inv-loop μ-loop
-returns c = λ s l p b. sym (c .before .loop .inv s l p b ∙ beaten-end s l (c .before .before .before .args .rule) (c .before .loop .mask) (c .before .loop .j) (c .before .before .before .args .count) (omega arith))
+returns c = λ s l p b. sym (c .before .loop .inv s l p b ∙ listed-end s l (c .before .before .before .args .rule) (c .before .loop .mask) (c .before .loop .j) (c .before .before .before .args .count) (omega arith))
 
-pub beaten-mask-spec : {M : Type 1} → statement M
-beaten-mask-spec =
+pub listed-mask-spec : {M : Type 1} → statement M
+listed-mask-spec =
     tie.close
     (tie.spec
     Inv-loop
