@@ -10,8 +10,7 @@ use lib.ListN.{length}
 use lib.Dec.{T, ltb, leb, leb→le, le→leb, ltb→lt, lt→ltb, nltb→le, nleb→lt}
 use Rattle.lists.proofs.Lists.{T-true}
 use Rattle.literals.proofs.Tests.{true-T, not-true-false}
-use Rattle.program.specs.Program.{Program, Π}
-use Rattle.program.specs.Limits.{Limits}
+use Rattle.program.specs.Program.{Π}
 use Rattle.layout.specs.declared.Verdict.{Verdict}
 use Rattle.layout.specs.declared.Verdict.the-variants.{Accepted, Refused}
 use Rattle.layout.specs.Layout.{atomsOf, rulesOf, pairsOf, partOf, kindByte}
@@ -23,6 +22,7 @@ use Rattle.layout.specs.Reading.{programIn}
 use Rattle.layout.proofs.Directory.{neither-left, neither-right}
 use Rattle.image.proofs.Accepted.{accepted-limits}
 use Rattle.derivation.specs.Derivation.{Contradictory, HeadsBelow}
+use Rattle.derivation.proofs.Tables.{limits-heads}
 use Rattle.derivation.specs.Closure.{contradictory}
 use Rattle.derivation.proofs.Contradictions.{contradictory-sound, contradictory-complete}
 use Rattle.derivation.proofs.Choices.{Π-with-rules}
@@ -93,10 +93,7 @@ query-accepted s h b al nl e =
       argument-room = within-of al (length (listIn s)) (refuse-accepted (ltb al (length (listIn s))) 23 0 (k22 .1));
     }
 
--- a program within the limits has heads below 128
-pub limits-heads : {p : Program} → Limits p → HeadsBelow 128 (p .rules)
-limits-heads l r i = let k = l .heads-below r i in let n = l .atoms-limit in omega arith
-
+-- the program of an accepted image has heads below 128
 module _ (s : List ℕ) where
   pub read-heads : verdict s ≡ Accepted → HeadsBelow 128 (programIn s .rules)
   read-heads e = limits-heads (accepted-limits s e)

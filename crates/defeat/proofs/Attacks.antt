@@ -20,10 +20,10 @@ use Rattle.literals.proofs.Members.{has-cases, has-empty}
 use Rattle.literals.proofs.Within.{within-each, each-within, within-le, meets-both, both-meets}
 use Rattle.program.specs.Program.{Rule, Program, defeasibles, Π-mask}
 use Rattle.program.specs.Limits.{Limits, Mask}
-use Rattle.derivation.specs.Derivation.{HeadsBelow}
 use Rattle.derivation.specs.Closure.{contradictory, excludes}
 use Rattle.derivation.proofs.Contradictions.{excludes-sym, excludes-derived}
 use Rattle.derivation.proofs.Choices.{Π-with-mono}
+use Rattle.derivation.proofs.Tables.{limits-heads}
 use Rattle.argument.specs.Argument.{Subset, Argument, SubArgument, maskOf, literalOf}
 use Rattle.argument.specs.List.{argumentList}
 use Rattle.argument.specs.inside.Fresh.{maskClosure}
@@ -54,11 +54,8 @@ empty-subset n m e b h = absurd (false≢true (sym (has-empty b) ∙ ap (λ (k :
 -- ---- within the limits
 
 module _ (p : Program) (limits : Limits p) where
-  heads-small : HeadsBelow 128 (p .rules)
-  heads-small r i = omega (arith, limits .heads-below r i, limits .atoms-limit)
-
   listed-argument : (x : ℕ) → List·Memᴰ x (argumentList (p .rules)) → Argument (p .rules) (maskOf x) (literalOf x)
-  listed-argument = list-sound (p .rules) heads-small
+  listed-argument = list-sound (p .rules) (limits-heads limits)
 
   pub listed-mask : (x : ℕ) → List·Memᴰ x (argumentList (p .rules)) → Mask p (maskOf x)
   listed-mask x i = argument-mask-below (p .rules) (maskOf x) (literalOf x) (listed-argument x i)
@@ -88,12 +85,12 @@ module _ (p : Program) (limits : Limits p) where
       coherent = argument-coherent (p .rules) (maskOf y) (literalOf y) (listed-argument y i)
 
       to : (k : ℕ) × (has s k ≡ true) × (has derived k ≡ true) → any (attackedBy s (maskOf y)) list ≡ true
-      to (k, a, b) = go (literal-sub-argument (p .rules) y heads-small coherent k b)
+      to (k, a, b) = go (literal-sub-argument (p .rules) y (limits-heads limits) coherent k b)
         where
           go : (z : ℕ) × SubArgument (p .rules) z y × (literalOf z ≡ k) → any (attackedBy s (maskOf y)) list ≡ true
           go (z, w, e) =
               T-true (any (attackedBy s (maskOf y)) list)
-              (any-intro (attackedBy s (maskOf y)) list (list-complete (p .rules) heads-small z (w .argument))
+              (any-intro (attackedBy s (maskOf y)) list (list-complete (p .rules) (limits-heads limits) z (w .argument))
               (true-T (attackedBy s (maskOf y) z)
               (and-intro (within (maskOf z) (maskOf y)) (has s (literalOf z)) (each-within (maskOf z) (maskOf y) (w .part))
               (ap (has s) e ∙ a))))

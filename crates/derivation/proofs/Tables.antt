@@ -37,6 +37,10 @@ table-heads p t h s =
     each-rule (λ (r : Rule). r .head < 128) (p .rules) (λ i l.
     subst (λ (x : ℕ). x < 128) (h .row i l .head-is) (s .literals i (subst (λ (n : ℕ). i < n) (sym (h .rules-are)) l)))
 
+-- a program within the limits has no other literals than the 128
+pub limits-heads : {p : Program} → Limits p → HeadsBelow 128 (p .rules)
+limits-heads l r i = let k = l .heads-below r i in let n = l .atoms-limit in omega arith
+
 -- the table of a program within the limits: at most 96 rules, heads below 128
 pub limits-shaped : (p : Program) (t : List ℕ) → Holds p t → Limits p → Shaped t
 limits-shaped p t holds limits = record {
@@ -44,5 +48,5 @@ limits-shaped p t holds limits = record {
   literals = λ i l.
       let inside : i < length (p .rules) = omega (arith, holds .rules-are) in
       let there = Π-with-rules (p .rules) (λ _. true) (ruleAt (p .rules) i) (Π-with-at (p .rules) (λ _. true) i inside refl) in
-      omega (arith, holds .row i inside .head-is, limits .heads-below (ruleAt (p .rules) i) there, limits .atoms-limit);
+      omega (arith, holds .row i inside .head-is, limits-heads limits (ruleAt (p .rules) i) there);
 }

@@ -1,6 +1,6 @@
 -- What a passed test says, and what makes it pass: by connective, then by list function.
 use mathlib.Core.Path.{_≡_, refl, ap, sym, subst, _∙_}
-use mathlib.Core.Bool.{Bool, true, false, _&&_, _||_}
+use mathlib.Core.Bool.{Bool, true, false, not, _&&_, _||_}
 use mathlib.Core.List.{List, [], _∷_, _++_, map, List·Memᴰ, List·Memᴰ·head, List·Memᴰ·tail, List·Memᴰ·not-nil, Memᴰ·cast}
 use mathlib.Core.Logic.{_⊎_, inl, inr}
 use Prim.Native.Nat.{ℕ, zero, suc, _+_, _≤_, _<_}
@@ -196,6 +196,13 @@ member-intro {n} l i = any-intro (eqb n) l i (eqb-refl n)
 
 pub member-found : {n : ℕ} (l : List ℕ) → T (member n l) → List·Memᴰ n l
 member-found {n} l h = let r = any-found (eqb n) l h in Memᴰ·cast (eqb→eq n (r .0) (r .2)) (r .1)
+
+pub member-known : (n : ℕ) (l : List ℕ) → List·Memᴰ n l ⊎ T (not (member n l))
+member-known n l = go (T-known (member n l))
+  where
+    go : T (member n l) ⊎ (T (member n l) → ⊥) → List·Memᴰ n l ⊎ T (not (member n l))
+    go (inl h) = inl (member-found l h)
+    go (inr h) = inr (not-T (member n l) h)
 
 pub upto-intro : (first count n : ℕ) → first ≤ n → n < first + count → List·Memᴰ n (upto first count)
 upto-intro first zero n h k = absurd (omega arith)

@@ -3,7 +3,7 @@
 use mathlib.Core.Path.{_≡_, refl, sym, ap, subst, _∙_}
 use mathlib.Core.Bool.{Bool, true, false, not}
 use mathlib.Core.List.{List, [], _∷_, List·Memᴰ, List·Memᴰ·head, List·Memᴰ·tail}
-use mathlib.Core.Logic.{_⊎_, inl, inr}
+use mathlib.Core.Logic.{_⊎_, inl, inr, ⊎-elim}
 use Prim.Native.Nat.{ℕ, zero, suc, _≤_, _<_}
 use native.Mathlib.Omega.{arith}
 use lib.ListN.{length}
@@ -11,7 +11,8 @@ use lib.Dec.{T, eqb, eqb→eq, eqb-refl, not-T, T-not}
 use Rattle.lists.specs.Lists.{keep, any, filter, member}
 use Rattle.lists.specs.Decides.{Decides}
 use Rattle.lists.proofs.Lists.{and-intro, and-both, T-known, length-none, keep-head, keep-tail, keep-cases, any-intro, any-found}
-use Rattle.lists.proofs.Lists.{filter-intro, filter-found, filter-length, filter-lt, map-intro, map-found, member-intro, member-found}
+use Rattle.lists.proofs.Lists.{filter-intro, filter-found, filter-length, filter-lt, map-intro, map-found}
+use Rattle.lists.proofs.Lists.{member-intro, member-found, member-known}
 use Rattle.program.specs.Program.{Program}
 use Rattle.program.specs.Beats.{Beats, listed, through}
 use Rattle.program.proofs.Chaining.{beats-trans}
@@ -24,14 +25,12 @@ module _ (q : ℕ × ℕ) (s : List ℕ) where
   follow-keeps : {x : ℕ} → List·Memᴰ x s → List·Memᴰ x (follow q s)
   follow-keeps i = keep-tail (adds q s) (q .1) i
 
+  -- where the first rule is reached, the second is, or the pair adds it
+  second-known : List·Memᴰ (q .0) s → List·Memᴰ (q .1) s ⊎ T (adds q s)
+  second-known i = ⊎-elim inl (λ n. inr (and-intro (member (q .0) s) (not (member (q .1) s)) (member-intro s i) n)) (member-known (q .1) s)
+
   follow-has : List·Memᴰ (q .0) s → List·Memᴰ (q .1) (follow q s)
-  follow-has i = go (T-known (member (q .1) s))
-    where
-      go : T (member (q .1) s) ⊎ (T (member (q .1) s) → ⊥) → List·Memᴰ (q .1) (follow q s)
-      go (inl h) = follow-keeps (member-found s h)
-      go (inr n) =
-          keep-head (adds q s) (q .1) s
-          (and-intro (member (q .0) s) (not (member (q .1) s)) (member-intro s i) (not-T (member (q .1) s) n))
+  follow-has i = ⊎-elim follow-keeps (keep-head (adds q s) (q .1) s) (second-known i)
 
   follow-found : {x : ℕ} → List·Memᴰ x (follow q s) → ((x ≡ q .1) × List·Memᴰ (q .0) s) ⊎ List·Memᴰ x s
   follow-found {x} i = go (keep-cases (adds q s) (q .1) x s i)
@@ -116,13 +115,7 @@ module _ (ps : List (ℕ × ℕ)) where
   missing s = filter (λ q. not (member (q .1) s)) ps
 
   none-adds : (s : List ℕ) → (T (any (λ q. adds q s) ps) → ⊥) → Closed ps s
-  none-adds s n q j i = go (T-known (member (q .1) s))
-    where
-      go : T (member (q .1) s) ⊎ (T (member (q .1) s) → ⊥) → List·Memᴰ (q .1) s
-      go (inl h) = member-found s h
-      go (inr f) =
-          absurd (n (any-intro (λ r. adds r s) ps j
-          (and-intro (member (q .0) s) (not (member (q .1) s)) (member-intro s i) (not-T (member (q .1) s) f))))
+  none-adds s n q j i = ⊎-elim (λ k. k) (λ h. absurd (n (any-intro (λ r. adds r s) ps j h))) (second-known q s i)
 
   fewer-missing : (s : List ℕ) (q : ℕ × ℕ) → List·Memᴰ q ps → T (adds q s) → length (missing (spread ps s)) < length (missing s)
   fewer-missing s q j h =
@@ -135,13 +128,10 @@ module _ (ps : List (ℕ × ℕ)) where
       (member-intro (spread ps s) (spread-follows ps s q j (member-found s (b .0)))))
 
   none-missing : (s : List ℕ) → length (missing s) ≤ 0 → Closed ps s
-  none-missing s h q j i = go (T-known (member (q .1) s))
-    where
-      go : T (member (q .1) s) ⊎ (T (member (q .1) s) → ⊥) → List·Memᴰ (q .1) s
-      go (inl t) = member-found s t
-      go (inr f) = absurd (length-none (missing s) h (filter-intro (λ r. not (member (r .1) s)) ps j (not-T (member (q .1) s) f)))
+  none-missing s h q j i =
+      ⊎-elim (λ k. k) (λ f. absurd (length-none (missing s) h (filter-intro (λ r. not (member (r .1) s)) ps j f))) (member-known (q .1) s)
 
-  rounds-closed : (n : ℕ) (s : List ℕ) → length (filter (λ q. not (member (q .1) s)) ps) ≤ n → Closed ps (rounds n ps s)
+  rounds-closed : (n : ℕ) (s : List ℕ) → length (missing s) ≤ n → Closed ps (rounds n ps s)
   unfolding rounds
   rounds-closed zero s h = none-missing s h
   rounds-closed (suc n) s h = go (T-known (any (λ q. adds q s) ps)) (rounds-closed n (spread ps s))

@@ -29,7 +29,8 @@ use Rattle.calls.specs.declared.Listed.the-variants as lists
 use Rattle.calls.specs.Calls.{checkImage, listIn, listVerdict, listedBy, listed, listTable, listCall, listedNumber}
 use Rattle.calls.specs.Calls.{unlessRefused, front, queryVerdict, queried, queryArguments, queryColumn, queryNodes}
 use Rattle.calls.specs.Calls.{nodesAfter, nodeOf, zeroed, Call, asked, literalAsked, verdictOf, codeFrom, nodesFrom}
-use Rattle.calls.proofs.Refusals.{limits-heads, checked-heads, check-accepted, list-accepted, query-accepted}
+use Rattle.derivation.proofs.Tables.{limits-heads}
+use Rattle.calls.proofs.Refusals.{checked-heads, check-accepted, list-accepted, query-accepted}
 use Rattle.warrant.specs.Answers.{Answers, NodesAfter}
 use Rattle.warrant.specs.Claims.{One, Demand-2}
 use Rattle.warrant.proofs.Calls.{queried-accepted, call-answered}
