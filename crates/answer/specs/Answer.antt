@@ -65,3 +65,20 @@ nodesOf (Undecided n) = n
 nodesOf Unknown = 0
 nodesOf (Unfinished n) = n
 nodesOf (Refused number place) = 0
+
+-- and of a refusal the number of its cause with the cause's place; an answer has neither
+abbrev pub answeredCause : Answer → ℕ
+answeredCause (Yes n) = 0
+answeredCause (No n) = 0
+answeredCause (Undecided n) = 0
+answeredCause Unknown = 0
+answeredCause (Unfinished n) = 0
+answeredCause (Refused number place) = number
+
+abbrev pub answeredPlace : Answer → ℕ
+answeredPlace (Yes n) = 0
+answeredPlace (No n) = 0
+answeredPlace (Undecided n) = 0
+answeredPlace Unknown = 0
+answeredPlace (Unfinished n) = 0
+answeredPlace (Refused number place) = place

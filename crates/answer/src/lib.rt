@@ -9,3 +9,14 @@ pub enum Answer {
     Unfinished { nodes: u32 },
     Refused { number: u32, place: u32 },
 }
+
+// The causes that turn a question away: document 01's numbers under the names of include/foqtirel.h.
+impl Answer {
+    pub const QUERY_LITERAL: u32 = 20;
+
+    pub const BUDGET: u32 = 21;
+
+    pub const NODE_TABLE: u32 = 22;
+
+    pub const ARGUMENT_TABLE: u32 = 23;
+}

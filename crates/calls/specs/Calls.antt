@@ -8,7 +8,7 @@ use lib.Dec.{ltb, leb}
 use Rattle.program.specs.Program.{Π}
 use Rattle.layout.specs.declared.Verdict.{Verdict}
 use Rattle.layout.specs.declared.Verdict.the-variants as verdicts
-use Rattle.layout.specs.Causes.{refuse, andThen, verdict}
+use Rattle.layout.specs.Causes.{causeOf, placeOf, refuse, andThen, verdict}
 use Rattle.layout.specs.Reading.{programIn}
 use Rattle.derivation.specs.Closure.{contradictory}
 use Rattle.argument.specs.List.{argumentList}
@@ -20,7 +20,7 @@ use Rattle.calls.specs.declared.Listed.the-variants as lists
 use Rattle.nodes.specs.declared.Node.{Node}
 pub use Rattle.nodes.specs.Nodes.{nodeOf}
 pub use Rattle.answer.specs.Tables.{front, nodesAfter, zeroed, columnAfter}
-use Rattle.answer.specs.Answer.{tests, forestEntries, answer, codeOf, nodesOf}
+use Rattle.answer.specs.Answer.{tests, forestEntries, answer, codeOf, nodesOf, answeredCause, answeredPlace}
 
 -- ---- check an image
 
@@ -43,6 +43,16 @@ listVerdict s room = andThen (checkImage s) (refuse (ltb room (length (listIn s)
 abbrev pub listedBy : Verdict → ℕ → Listed
 listedBy verdicts.Accepted n = lists.Count n
 listedBy (verdicts.Refused number place) n = lists.Refused number place
+
+-- document 01's number of the cause that it names, none of one that lists; and what comes with it: the argument count, or
+-- the cause's place
+abbrev pub listedCause : Listed → ℕ
+listedCause (lists.Count n) = 0
+listedCause (lists.Refused number place) = number
+
+abbrev pub listedValue : Listed → ℕ
+listedValue (lists.Count n) = n
+listedValue (lists.Refused number place) = place
 
 unfoldable pub listed : List ℕ → ℕ → Listed
 listed s room = listedBy (listVerdict s room) (length (listIn s))
@@ -102,12 +112,7 @@ codeAndNodes a = codeOf a * 65536 + nodesOf a
 
 -- "It returns code × 65,536 + nodes, or a bare refusal number."
 abbrev pub packed : Answer → ℕ
-packed (Yes n) = codeAndNodes (Yes n)
-packed (No n) = codeAndNodes (No n)
-packed (Undecided n) = codeAndNodes (Undecided n)
-packed Unknown = codeAndNodes Unknown
-packed (Unfinished n) = codeAndNodes (Unfinished n)
-packed (Refused number place) = number
+packed a = answeredCause a + codeAndNodes a
 
 -- "which brings its own two tables of 4,096 entries, zeroed"
 unfoldable pub hostCall : List ℕ → (literal budget : ℕ) → ℕ
@@ -115,34 +120,27 @@ hostCall s h budget = packed (queried s h budget 4096 4096)
 
 -- ---- the calls of the C library: each result is one number
 
--- a cause with its place: number * 2^32 + place
-abbrev pub refusalNumber : (number place : ℕ) → ℕ
-refusalNumber number place = number * 0x1_0000_0000 + place
+-- a cause, 0 for none, with what comes with it: number * 2^32 + value
+abbrev pub refusalNumber : (number value : ℕ) → ℕ
+refusalNumber number value = number * 0x1_0000_0000 + value
 
 -- 0 where an image is accepted
 abbrev pub verdictNumber : Verdict → ℕ
-verdictNumber verdicts.Accepted = 0
-verdictNumber (verdicts.Refused number place) = refusalNumber number place
+verdictNumber v = refusalNumber (causeOf v) (placeOf v)
 
 abbrev pub checkCall : List ℕ → ℕ
 checkCall s = verdictNumber (checkImage s)
 
--- the argument count
+-- the argument count, or a cause with its place
 abbrev pub listedNumber : Listed → ℕ
-listedNumber (lists.Count n) = n
-listedNumber (lists.Refused number place) = refusalNumber number place
+listedNumber l = refusalNumber (listedCause l) (listedValue l)
 
 abbrev pub listCall : List ℕ → (room : ℕ) → ℕ
 listCall s room = listedNumber (listed s room)
 
--- code * 2^16 + nodes
+-- code * 2^16 + nodes, or a cause with its place
 abbrev pub answeredNumber : Answer → ℕ
-answeredNumber (Yes n) = codeAndNodes (Yes n)
-answeredNumber (No n) = codeAndNodes (No n)
-answeredNumber (Undecided n) = codeAndNodes (Undecided n)
-answeredNumber Unknown = codeAndNodes Unknown
-answeredNumber (Unfinished n) = codeAndNodes (Unfinished n)
-answeredNumber (Refused number place) = refusalNumber number place
+answeredNumber a = refusalNumber (answeredCause a) (answeredPlace a) + codeAndNodes a
 
 -- the query with lent tables
 abbrev pub treesCall : List ℕ → (literal budget argumentRoom nodeRoom : ℕ) → ℕ

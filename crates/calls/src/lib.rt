@@ -15,6 +15,11 @@ pub enum Listed {
     Refused { number: u32, place: u32 },
 }
 
+// The cause that is a list's own, beside those of the image.
+impl Listed {
+    pub const ARGUMENT_TABLE: u32 = 23;
+}
+
 // The first of causes 1 to 14 that applies to an image.
 pub fn check(image: &[u8]) -> Verdict
     ensures { λ r. ⌜ r ≡ checkImage (now (image .entry)) ⌝ }
@@ -33,7 +38,7 @@ pub fn load(image: &[u8], table: &mut RuleTable) -> Verdict
     }
     if derivation::close(table, 0, LiteralSet::empty()).contradictory() {
         return Verdict::Refused {
-            number: 14,
+            number: Verdict::STRICT_CONTRADICTION,
             place: 0,
         };
     }
@@ -51,7 +56,7 @@ pub fn list(image: &[u8], arguments: &mut [u32]) -> Listed
     match sizes::list(&table, arguments) {
         listing::Listed::Count(count) => Listed::Count(count),
         listing::Listed::Over => Listed::Refused {
-            number: 23,
+            number: Listed::ARGUMENT_TABLE,
             place: 0,
         },
     }

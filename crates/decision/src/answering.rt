@@ -43,7 +43,7 @@ pub fn settle(
             marks,
         ),
         Listed::Over => Answer::Refused {
-            number: 23,
+            number: Answer::ARGUMENT_TABLE,
             place: 0,
         },
     }

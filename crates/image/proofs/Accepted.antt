@@ -1,35 +1,34 @@
 -- What an accepted image is: each part and each pair is sound, and its program is within the limits.
 use mathlib.Core.Path.{_≡_, refl, sym, ap, subst, _∙_}
-use mathlib.Core.Bool.{Bool, true, false, not, _&&_, _||_}
+use mathlib.Core.Bool.{Bool, true, false, _&&_}
 use mathlib.Core.List.{List, [], _∷_, List·Memᴰ, List·Memᴰ·cases-cons, List·Memᴰ·not-nil}
 use mathlib.Core.Logic.{_⊎_, inl, inr}
-use Prim.Native.Nat.{ℕ, zero, suc, _+_, _-_, _*_, _<_, _≤_}
+use Prim.Native.Nat.{ℕ, zero, suc, _-_, _*_, _<_, _≤_}
 use native.Mathlib.Numerals.{add-one}
 use native.Mathlib.Nat.{le-refl, sub-zero}
 use native.Mathlib.Omega.{arith}
-use lib.ListN.{length, getD, take, drop}
+use lib.ListN.{length, take, drop}
 use lib.Seq.{take-length}
 use lib.Dec.{ltb, leb, eqb}
-use borrow.Author.Tests.{ltb-true, ltb-false, lt-ltb, leb-false, eqb-true, eqb-false, not-false}
-use Rattle.literals.proofs.Tests.{and-intro, and-left, and-right}
-use Rattle.program.specs.Program.{Kind, strict, defeasible, Rule, Program, nextBit, defeasibles, defeasiblesFrom, bitOf, ruleAt}
+use borrow.Author.Tests.{ltb-true, ltb-false, leb-false, eqb-false, not-false}
+use Rattle.literals.proofs.Tests.{and-left, and-right}
+use Rattle.program.specs.Program.{Kind, Rule, nextBit, defeasibles, defeasiblesFrom, bitOf}
 use Rattle.program.specs.Limits.{DefeasibleAt, PairOf, Limits}
-use Rattle.program.specs.inside.Table.{Holds}
 use Rattle.program.proofs.Fillings.{bit-of-next}
 use Rattle.layout.specs.declared.Verdict.{Verdict}
 use Rattle.layout.specs.declared.Verdict.the-variants.{Accepted, Refused}
-use Rattle.layout.specs.Layout.{byteAt, atomsOf, rulesOf, pairsOf, sizeOf, partOf, kindByte, headByte, bodyBytes, firstOf, secondOf}
-use Rattle.layout.specs.Causes.{refuse, andThen, allBelow, ascending, badSize, badKind, badLiteral, badBody, badEmpty, badSeventeenth, badRepeat, badLength, badCounts, badDirectory, badPairs, badPair, notDefeasible, partVerdict, ruleVerdict, countKind, rulesVerdict, pairVerdict, pairsVerdict, verdict}
-use Rattle.layout.specs.Reading.{ruleIn, rulesIn, pairsIn, programIn}
-use Rattle.layout.specs.inside.Steps.{Parts, Loaded}
-use Rattle.layout.proofs.Bytes.{below-here, below-after}
-use Rattle.layout.proofs.Directory.{neither-left, neither-right, directory-parts}
+use Rattle.layout.specs.Layout.{atomsOf, rulesOf, pairsOf, partOf, kindByte, headByte, bodyBytes, firstOf, secondOf}
+use Rattle.layout.specs.Causes.{refuse, andThen, allBelow, ascending, badSize, badKind, badLiteral, badBody, badEmpty, badSeventeenth, badLength, badCounts, badDirectory, badPairs, badPair, notDefeasible, partVerdict, ruleVerdict, countKind, rulesVerdict, pairVerdict, pairsVerdict, verdict}
+use Rattle.layout.specs.Reading.{ruleIn, rulesIn, programIn}
+use Rattle.layout.specs.inside.Steps.{PartAt}
+use Rattle.part.proofs.Bytes.{below-here, below-after}
+use Rattle.layout.proofs.Directory.{neither-left, neither-right, directory-part}
 use Rattle.image.proofs.EachRule.{rules-next, kind-counted, kind-defeasible, kind-strict}
-use Rattle.image.proofs.EachPair.{pairs-next, part-length}
+use Rattle.image.proofs.EachPair.{pairs-next}
 use Rattle.image.proofs.Readings.{rules-length, rules-at, rules-found, pairs-found}
 
 -- ---- what accepts, test by test
-then-left : (v w : Verdict) → andThen v w ≡ Accepted → v ≡ Accepted
+pub then-left : (v w : Verdict) → andThen v w ≡ Accepted → v ≡ Accepted
 then-left Accepted w e = refl
 then-left (Refused n p) w e = e
 
@@ -37,20 +36,19 @@ then-right : (v w : Verdict) → andThen v w ≡ Accepted → w ≡ Accepted
 then-right Accepted w e = e
 then-right (Refused n p) w e = absurd (let z : _≡_ {A = ℕ} 0 1 = cc in omega arith)
 
-refuse-not : (b : Bool) (n p : ℕ) → refuse b n p ≡ Accepted → b ≡ false
+pub refuse-not : (b : Bool) (n p : ℕ) → refuse b n p ≡ Accepted → b ≡ false
 refuse-not true n p e = absurd (let z : _≡_ {A = ℕ} 0 1 = cc in omega arith)
 refuse-not false n p e = refl
 
 -- ---- a rule's part
 pub record PartSound (part : List ℕ) (atoms before : ℕ) : Type 0 where
   pub long : 2 ≤ length part
-  pub short : length part ≤ 10
   pub kind-few : kindByte part ≤ 1
   pub literals : allBelow (2 * atoms) (drop 1 part) ≡ true
   pub body : ascending (bodyBytes part) ≡ true
   pub room : eqb (kindByte part) 1 ≡ true → before < 16
 
-part-sound : (part : List ℕ) (atoms before place : ℕ) → partVerdict part atoms before place ≡ Accepted → PartSound part atoms before
+pub part-sound : (part : List ℕ) (atoms before place : ℕ) → partVerdict part atoms before place ≡ Accepted → PartSound part atoms before
 unfolding partVerdict
 part-sound part atoms before place e =
     let four = refuse-not (badSize part) 4 place (then-left (refuse (badSize part) 4 place) _ e) in
@@ -64,7 +62,6 @@ part-sound part atoms before place e =
     let nine = refuse-not (badSeventeenth before part) 9 place (then-right (refuse (badEmpty part) 8 place) _ e8) in
     record {
       long = ltb-false (length part) 2 (neither-left (ltb (length part) 2) _ four);
-      short = ltb-false 10 (length part) (neither-right (ltb (length part) 2) _ four);
       kind-few = ltb-false 1 (kindByte part) five;
       literals = not-false _ six;
       body = not-false _ seven;
@@ -75,10 +72,8 @@ part-sound part atoms before place e =
 pub record Sound (s : List ℕ) : Type 0 where
   pub few-atoms : atomsOf s ≤ 64
   pub few-rules : rulesOf s ≤ 96
-  pub few-pairs : pairsOf s ≤ 240
-  pub parts : Parts s (rulesOf s)
+  pub parts : (i : ℕ) → i ≤ rulesOf s → PartAt s i
   pub rules-accepted : rulesVerdict s 0 0 (rulesOf s) ≡ Accepted
-  pub pairs-size : length (partOf s (rulesOf s)) ≡ 2 * pairsOf s
   pub pairs-accepted : pairsVerdict s 0 (pairsOf s) ≡ Accepted
 
 pub accepted-sound : (s : List ℕ) → verdict s ≡ Accepted → Sound s
@@ -91,15 +86,11 @@ accepted-sound s e =
     let three = refuse-not (badDirectory s) 3 0 (then-left (refuse (badDirectory s) 3 0) _ e3) in
     let e4 = then-right (refuse (badDirectory s) 3 0) _ e3 in
     let e11 = then-right (rulesVerdict s 0 0 (rulesOf s)) _ e4 in
-    let eleven = refuse-not (badPairs s) 11 0 (then-left (refuse (badPairs s) 11 0) _ e11) in
-    let parts = directory-parts s three in
     record {
       few-atoms = ltb-false 64 (atomsOf s) (neither-left (ltb 64 (atomsOf s)) _ two);
       few-rules = ltb-false 96 (rulesOf s) (neither-left (ltb 96 (rulesOf s)) _ more);
-      few-pairs = ltb-false 240 (pairsOf s) (neither-left (ltb 240 (pairsOf s)) _ (neither-right (ltb 96 (rulesOf s)) _ more));
-      parts = parts;
+      parts = directory-part s three;
       rules-accepted = then-left (rulesVerdict s 0 0 (rulesOf s)) _ e4;
-      pairs-size = part-length s (rulesOf s) (rulesOf s) parts (le-refl (rulesOf s)) ∙ eqb-true (sizeOf s (rulesOf s)) (2 * pairsOf s) (not-false _ eleven);
       pairs-accepted = then-right (refuse (badPairs s) 11 0) _ e11;
     }
 
@@ -213,43 +204,6 @@ module _ (s : List ℕ) (sound : Sound s) where
 pub accepted-limits : (s : List ℕ) → verdict s ≡ Accepted → Limits (programIn s)
 accepted-limits s e = sound-limits s (accepted-sound s e)
 
--- ---- what filling the rule table needs, by the rule count that was read
-pub record Fillable (s : List ℕ) (n : ℕ) : Type 0 where
-  pub few : n ≤ 96
-  pub parts : Parts s n
-  pub length-is : length (rulesIn s 0 n) ≡ n
-  pub rule-is : (j : ℕ) → j < n → ruleAt (rulesIn s 0 n) j ≡ ruleIn (partOf s j)
-  pub long : (j : ℕ) → j < n → 2 ≤ length (partOf s j)
-  pub literals : (j : ℕ) → j < n → allBelow 128 (bodyBytes (partOf s j)) ≡ true
-  pub bit-next : (j : ℕ) → j < n → bitOf (rulesIn s 0 n) (suc j) ≡ nextBit (ruleIn (partOf s j) .kind) (bitOf (rulesIn s 0 n) j)
-  pub bit-few : (j : ℕ) → j ≤ n → bitOf (rulesIn s 0 n) j ≤ 16
-  pub bit-room : (j : ℕ) → j < n → eqb (kindByte (partOf s j)) 1 ≡ true → bitOf (rulesIn s 0 n) j < 16
-  pub bits-are : bitOf (rulesIn s 0 n) n ≡ defeasibles (rulesIn s 0 n)
-
-below-more : (m n : ℕ) (l : List ℕ) → m ≤ n → allBelow m l ≡ true → allBelow n l ≡ true
-unfolding allBelow
-below-more m n [] h e = refl
-below-more m n (x ∷ l) h e =
-    let b = ltb-true x m (and-left (ltb x m) _ e) in
-    and-intro (ltb x n) (allBelow n l) (lt-ltb x n (omega arith)) (below-more m n l h (and-right (ltb x m) _ e))
-
-pub accepted-fillable : (s : List ℕ) (n : ℕ) → verdict s ≡ Accepted → n ≡ rulesOf s → Fillable s n
-accepted-fillable s n e is = subst (Fillable s) (sym is) (go (accepted-sound s e))
-  where
-    go : Sound s → Fillable s (rulesOf s)
-    go sound = record {
-      few = sound .few-rules;
-      parts = sound .parts;
-      length-is = rules-length s 0 (rulesOf s);
-      rule-is = rules-at s (rulesOf s);
-      long = λ j h. rule-sound s sound j h .long;
-      literals = λ j h. let f = sound .few-atoms in below-more (2 * atomsOf s) 128 (bodyBytes (partOf s j)) (omega arith) (body-below s sound j h);
-      bit-next = rule-next s sound;
-      bit-few = bits-few s sound;
-      bit-room = λ j h k. rule-sound s sound j h .room k;
-      bits-are = ap defeasibles (ap (λ (k : ℕ). take k (rulesIn s 0 (rulesOf s))) (sym (rules-length s 0 (rulesOf s))) ∙ take-length (rulesIn s 0 (rulesOf s)));
-    }
-
--- what reading an accepted image leaves in a table of 419 words
-pub loaded-holds : (s before t : List ℕ) → length before ≡ 419 → verdict s ≡ Accepted → Loaded (verdict s) (programIn s) before t → Holds (programIn s) t
-loaded-holds s before t long e l = subst (λ (v : Verdict). Loaded v (programIn s) before t) e l long
+-- and each of its parts can be looked up
+pub accepted-part : (s : List ℕ) → verdict s ≡ Accepted → (i : ℕ) → i ≤ rulesOf s → PartAt s i
+accepted-part s e = accepted-sound s e .parts

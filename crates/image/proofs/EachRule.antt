@@ -1,26 +1,18 @@
 -- Rule by rule: what one rule's verdict says of all from it on.
-use mathlib.Core.Path.{_≡_, refl, sym, ap, ap₂, _∙_}
+use mathlib.Core.Path.{_≡_, refl, ap, ap₂}
 use mathlib.Core.Bool.{Bool, true, false}
 use mathlib.Core.List.{List}
-use Prim.Native.Nat.{ℕ, zero, suc, _+_, _-_, _<_, _≤_}
+use Prim.Native.Nat.{ℕ, suc, _+_, _-_, _<_, _≤_}
 use native.Mathlib.Numerals.{add-one}
-use native.Mathlib.Nat.{le-refl}
 use native.Mathlib.Omega.{arith}
 use lib.Dec.{eqb}
 use Rattle.literals.specs.Sets.{choose}
 use Rattle.program.specs.Program.{strict, defeasible, nextBit}
 use Rattle.layout.specs.declared.Verdict.{Verdict}
-use Rattle.layout.specs.declared.Verdict.the-variants.{Accepted, Refused}
+use Rattle.layout.specs.declared.Verdict.the-variants.{Accepted}
 use Rattle.layout.specs.Layout.{atomsOf, partOf, kindByte}
 use Rattle.layout.specs.Reading.{ruleIn}
 use Rattle.layout.specs.Causes.{refuse, andThen, badRepeat, partVerdict, ruleVerdict, countKind, rulesVerdict}
-
-pub count-le : (kind before : ℕ) → countKind kind before ≤ suc before
-count-le kind before = go (eqb kind 1)
-  where
-    go : (b : Bool) → choose b (suc before) before ≤ suc before
-    go true = le-refl (suc before)
-    go false = omega arith
 
 module _ (s : List ℕ) (before i : ℕ) where
   pub rule-by : (v : Verdict) (b : Bool) → partVerdict (partOf s i) (atomsOf s) before i ≡ v → badRepeat s i ≡ b → ruleVerdict s before i ≡ andThen v (refuse b 10 i)

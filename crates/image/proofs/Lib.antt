@@ -4,5 +4,7 @@ pub mod EachPair
 pub mod Whole
 pub mod Readings
 pub mod Accepted
+pub mod Repeated
+pub mod Walk
 pub mod Beaten
 pub mod Limited

@@ -6,11 +6,11 @@ use mathlib.Core.List.{List, [], _∷_, List·Memᴰ, List·Memᴰ·head, List·
 use Prim.Native.Nat.{ℕ, zero, suc, _+_, _*_, _<_}
 use native.Mathlib.Nat.{add-zero}
 use native.Mathlib.Omega.{arith}
-use lib.ListN.{length, drop}
+use lib.ListN.{drop}
 use lib.Dec.{ltb, leb, eqb}
 use borrow.Author.Tests.{lt-ltb, lt-leb, ne-eqb}
 use Rattle.literals.proofs.Tests.{and-intro}
-use Rattle.program.specs.Program.{Kind, strict, defeasible, Rule, isDefeasible}
+use Rattle.program.specs.Program.{defeasible, Rule, isDefeasible}
 use Rattle.program.specs.Limits.{DefeasibleAt, Limits}
 use Rattle.layout.specs.Layout.{atomsOf, rulesOf, pairsOf, partOf, kindByte, firstOf, secondOf}
 use Rattle.layout.specs.Causes.{allBelow, badLiteral, notDefeasible, badPair}

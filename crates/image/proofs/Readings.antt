@@ -1,17 +1,17 @@
 -- The rules and pairs that an image holds, one by one.
-use mathlib.Core.Path.{_≡_, refl, sym, ap, subst, _∙_}
-use mathlib.Core.List.{List, [], _∷_, List·Memᴰ, List·Memᴰ·head, List·Memᴰ·tail, List·Memᴰ·cases-cons, List·Memᴰ·not-nil}
+use mathlib.Core.Path.{_≡_, refl, sym, ap, _∙_}
+use mathlib.Core.List.{List, List·Memᴰ, List·Memᴰ·cases-cons, List·Memᴰ·not-nil}
 use mathlib.Core.Logic.{_⊎_, inl, inr}
 use mathlib.Core.Bool.{Bool}
 use Prim.Native.Nat.{ℕ, zero, suc, _+_, _-_, _<_, _≤_}
 use native.Mathlib.Numerals.{add-one}
-use native.Mathlib.Nat.{add-zero, add-suc}
+use native.Mathlib.Nat.{add-zero}
 use native.Mathlib.Omega.{arith}
-use lib.ListN.{length, getD}
+use lib.ListN.{length}
 use lib.Dec.{eqb}
 use borrow.Author.Tests.{eq-eqb, ne-eqb}
 use Rattle.literals.specs.Sets.{choose, insert}
-use Rattle.program.specs.Program.{Rule, fact, ruleAt, bitOf}
+use Rattle.program.specs.Program.{Rule, ruleAt, bitOf}
 use Rattle.program.specs.inside.Filling.{listedFrom}
 use Rattle.layout.specs.Layout.{partOf, firstOf, secondOf}
 use Rattle.layout.specs.Reading.{ruleIn, rulesIn, pairsIn}

@@ -1,18 +1,17 @@
 -- The whole verdict, from the header on.
 use mathlib.Core.Path.{_≡_, refl, sym, ap, _∙_}
-use mathlib.Core.Bool.{Bool, true, false, not, _||_}
+use mathlib.Core.Bool.{Bool, true, false}
 use mathlib.Core.List.{List}
-use Prim.Native.Nat.{ℕ, _+_, _*_, _<_, _≤_}
+use Prim.Native.Nat.{ℕ, _≤_}
 use native.Mathlib.Omega.{arith}
-use lib.Dec.{ltb, eqb}
+use lib.Dec.{ltb}
 use borrow.Author.Tests.{ltb-false}
 use Rattle.layout.specs.declared.Verdict.{Verdict}
 use Rattle.layout.specs.declared.Verdict.the-variants.{Accepted, Refused}
 use Rattle.layout.specs.declared.cursor.Cursor.{Cursor}
 use Rattle.layout.specs.declared.header.Counts.{Counts}
-use Rattle.layout.specs.declared.header.Header.{Header}
 use Rattle.layout.specs.declared.header.Header.the-variants as header
-use Rattle.layout.specs.Layout.{numberAt, atomsOf, rulesOf, pairsOf}
+use Rattle.layout.specs.Layout.{atomsOf, rulesOf, pairsOf}
 use Rattle.layout.specs.Causes.{refuse, andThen, badLength, badCounts, badDirectory, rulesVerdict, badPairs, pairsVerdict, verdict}
 use Rattle.layout.specs.inside.Steps.{cursorAt, headerBy, headerOf}
 use Rattle.layout.proofs.Directory.{neither-left, neither-right}
@@ -30,14 +29,14 @@ pub record Known (s : List ℕ) (c : Counts) (next : Cursor) : Type 0 where
   pub counts-fine : badCounts s ≡ false
 
 -- what follows the header
-abbrev pub rest : List ℕ → (three : Bool) → Verdict → Verdict → Verdict
-rest s three rules pairs = andThen (refuse three 3 0) (andThen rules pairs)
+abbrev rest : (three : Bool) → Verdict → Verdict → Verdict
+rest three rules pairs = andThen (refuse three 3 0) (andThen rules pairs)
 
 module _ (s : List ℕ) where
-  by-header : (one two : Bool) → badLength s ≡ one → badCounts s ≡ two → verdict s ≡ andThen (refuse one 1 0) (andThen (refuse two 2 0) (rest s (badDirectory s) (rulesVerdict s 0 0 (rulesOf s)) (andThen (refuse (badPairs s) 11 0) (pairsVerdict s 0 (pairsOf s)))))
+  by-header : (one two : Bool) → badLength s ≡ one → badCounts s ≡ two → verdict s ≡ andThen (refuse one 1 0) (andThen (refuse two 2 0) (rest (badDirectory s) (rulesVerdict s 0 0 (rulesOf s)) (andThen (refuse (badPairs s) 11 0) (pairsVerdict s 0 (pairsOf s)))))
   unfolding verdict
   by-header one two e f =
-      let tail = rest s (badDirectory s) (rulesVerdict s 0 0 (rulesOf s)) (andThen (refuse (badPairs s) 11 0) (pairsVerdict s 0 (pairsOf s))) in
+      let tail = rest (badDirectory s) (rulesVerdict s 0 0 (rulesOf s)) (andThen (refuse (badPairs s) 11 0) (pairsVerdict s 0 (pairsOf s))) in
       ap (λ (b : Bool). andThen (refuse b 1 0) (andThen (refuse (badCounts s) 2 0) tail)) e
       ∙ ap (λ (b : Bool). andThen (refuse one 1 0) (andThen (refuse b 2 0) tail)) f
 
@@ -80,12 +79,21 @@ module _ (s : List ℕ) where
       go false true a b q = absurd (let z : _≡_ {A = ℕ} 0 1 = cc in omega arith)
       go false false a b q = known c next (cc) (cc) a b
 
-  -- after a header that is read: 3, the rules, then 11 and the pairs
+  -- after a header that is read: 3 and the rules, then 11 and the pairs
   module _ (c : Counts) (next : Cursor) (k : Known s c next) where
-    pub after-header : (three : Bool) (rules : Verdict) → badDirectory s ≡ three → rulesVerdict s 0 0 (c .rules) ≡ rules → verdict s ≡ rest s three rules (andThen (refuse (badPairs s) 11 0) (pairsVerdict s 0 (c .pairs)))
-    after-header three rules e f =
-        by-header false false (k .length-fine) (k .counts-fine)
-        ∙ ap (λ (b : Bool). rest s b (rulesVerdict s 0 0 (rulesOf s)) (andThen (refuse (badPairs s) 11 0) (pairsVerdict s 0 (pairsOf s)))) e
-        ∙ ap (λ (n : ℕ). rest s three (rulesVerdict s 0 0 n) (andThen (refuse (badPairs s) 11 0) (pairsVerdict s 0 (pairsOf s)))) (sym (k .rules-are))
-        ∙ ap (λ (v : Verdict). rest s three v (andThen (refuse (badPairs s) 11 0) (pairsVerdict s 0 (pairsOf s)))) f
-        ∙ ap (λ (n : ℕ). rest s three rules (andThen (refuse (badPairs s) 11 0) (pairsVerdict s 0 n))) (sym (k .pairs-are))
+    whole : verdict s ≡ rest (badDirectory s) (rulesVerdict s 0 0 (rulesOf s)) (andThen (refuse (badPairs s) 11 0) (pairsVerdict s 0 (pairsOf s)))
+    whole = by-header false false (k .length-fine) (k .counts-fine)
+
+    pub rules-refuse : (n p : ℕ) → andThen (refuse (badDirectory s) 3 0) (rulesVerdict s 0 0 (rulesOf s)) ≡ Refused n p → verdict s ≡ Refused n p
+    rules-refuse n p e = whole ∙ cut (badDirectory s) (rulesVerdict s 0 0 (rulesOf s)) _ e
+      where
+        cut : (b : Bool) (v w : Verdict) → andThen (refuse b 3 0) v ≡ Refused n p → andThen (refuse b 3 0) (andThen v w) ≡ Refused n p
+        cut true v w q = q
+        cut false Accepted w q = absurd (let z : _≡_ {A = ℕ} 0 1 = cc in omega arith)
+        cut false (Refused m r) w q = q
+
+    pub rules-accept : badDirectory s ≡ false → rulesVerdict s 0 0 (rulesOf s) ≡ Accepted → verdict s ≡ andThen (refuse (badPairs s) 11 0) (pairsVerdict s 0 (pairsOf s))
+    rules-accept e f =
+        whole
+        ∙ ap (λ (b : Bool). rest b (rulesVerdict s 0 0 (rulesOf s)) (andThen (refuse (badPairs s) 11 0) (pairsVerdict s 0 (pairsOf s)))) e
+        ∙ ap (λ (v : Verdict). rest false v (andThen (refuse (badPairs s) 11 0) (pairsVerdict s 0 (pairsOf s)))) f

@@ -10,6 +10,15 @@ use Rattle.layout.specs.declared.Verdict.{Verdict}
 use Rattle.layout.specs.declared.Verdict.the-variants.{Accepted, Refused}
 use Rattle.layout.specs.Layout.{byteAt, numberAt, atomsOf, rulesOf, pairsOf, offsetOf, sizeOf, partOf, kindByte, bodyBytes, firstOf, secondOf}
 
+-- document 01's number of the cause that a verdict names, and the cause's place: of one that accepts, neither
+abbrev pub causeOf : Verdict → ℕ
+causeOf Accepted = 0
+causeOf (Refused number place) = number
+
+abbrev pub placeOf : Verdict → ℕ
+placeOf Accepted = 0
+placeOf (Refused number place) = place
+
 -- a cause with its number and its place, where it applies
 abbrev pub refuse : Bool → ℕ → ℕ → Verdict
 refuse true number place = Refused number place

@@ -1,14 +1,14 @@
-// The first eight bytes and the directory: causes 1 to 3.
+// The first eight bytes, causes 1 and 2, and the directory, cause 3.
 ghost use mathlib.Core.Path.{_≡_};
 ghost use mathlib.Core.Bool.{not};
-ghost use Prim.Native.Nat.{_+_, _*_, _≤_, _<_};
-ghost use lib.ListN.{length};
+ghost use Prim.Native.Nat.{_≤_};
 ghost use Rattle.layout.specs.Layout.{rulesOf};
-ghost use Rattle.layout.specs.Causes.{partsFollow, badDirectory};
-ghost use Rattle.layout.specs.inside.Steps.{headerWith, headerOf};
+ghost use Rattle.layout.specs.Causes.{badDirectory};
+ghost use Rattle.layout.specs.inside.Steps.{headerWith, headerOf, Along};
+use crate::Verdict;
 use crate::cursor::Cursor;
-use crate::cursor::Entry;
-use crate::cursor::Number;
+use crate::cursor::Follow;
+use crate::cursor::Numbers;
 
 // How many atoms, rules and preference pairs the image says it has.
 pub struct Counts {
@@ -23,57 +23,39 @@ pub enum Header {
     Refused { number: u32, place: u32 },
 }
 
+// A cause of the whole image.
+fn refused(number: u32) -> Header
+    ensures { λ r. ⌜ r ≡ Header.Refused number 0 ⌝ }
+{
+    Header::Refused { number, place: 0 }
+}
+
+// Reads the counts. An image that ends before them is shorter than any may be.
 pub fn read(image: &[u8]) -> Header
     ensures { λ r. ⌜ r ≡ headerOf (now (image .entry)) ⌝ }
 {
+    let Numbers::Read {
+        first: atoms,
+        second: rules,
+        next: middle,
+    } = Cursor::start().numbers(image)
+    else {
+        return refused(Verdict::IMAGE_LENGTH);
+    };
+    let Numbers::Read {
+        first: pairs,
+        second: zero,
+        next,
+    } = middle.numbers(image)
+    else {
+        return refused(Verdict::IMAGE_LENGTH);
+    };
     if image.len() < 12 {
-        return Header::Refused {
-            number: 1,
-            place: 0,
-        };
+        return refused(Verdict::IMAGE_LENGTH);
     }
     if 1836 < image.len() {
-        return Header::Refused {
-            number: 1,
-            place: 0,
-        };
+        return refused(Verdict::IMAGE_LENGTH);
     }
-    let Number::Read {
-        value: atoms,
-        next: second,
-    } = Cursor::start().number(image)
-    else {
-        return Header::Refused {
-            number: 1,
-            place: 0,
-        };
-    };
-    let Number::Read {
-        value: rules,
-        next: third,
-    } = second.number(image)
-    else {
-        return Header::Refused {
-            number: 1,
-            place: 0,
-        };
-    };
-    let Number::Read {
-        value: pairs,
-        next: fourth,
-    } = third.number(image)
-    else {
-        return Header::Refused {
-            number: 1,
-            place: 0,
-        };
-    };
-    let Number::Read { value: zero, next } = fourth.number(image) else {
-        return Header::Refused {
-            number: 1,
-            place: 0,
-        };
-    };
     within_limits(atoms, rules, pairs, zero, next)
 }
 
@@ -82,28 +64,16 @@ fn within_limits(atoms: u16, rules: u16, pairs: u16, zero: u16, next: Cursor) ->
     ensures { λ r. ⌜ r ≡ headerWith atoms rules pairs zero next ⌝ }
 {
     if 64 < atoms {
-        return Header::Refused {
-            number: 2,
-            place: 0,
-        };
+        return refused(Verdict::HEADER);
     }
     if 96 < rules {
-        return Header::Refused {
-            number: 2,
-            place: 0,
-        };
+        return refused(Verdict::HEADER);
     }
     if 240 < pairs {
-        return Header::Refused {
-            number: 2,
-            place: 0,
-        };
+        return refused(Verdict::HEADER);
     }
     if zero != 0 {
-        return Header::Refused {
-            number: 2,
-            place: 0,
-        };
+        return refused(Verdict::HEADER);
     }
     let counts = Counts {
         atoms: atoms as usize,
@@ -113,36 +83,21 @@ fn within_limits(atoms: u16, rules: u16, pairs: u16, zero: u16, next: Cursor) ->
     Header::Read { counts, next }
 }
 
-// Each part starts where the one before ends, and the last ends with the image.
-fn parts_follow(image: &[u8], rules: usize, start: Cursor) -> bool
-    requires { ⌜ (rules ≤ 96) × (12 + 4 * rules ≤ length (now image)) × (start .at ≡ 8) ⌝ }
-    ensures { λ r. ⌜ r ≡ partsFollow (now (image .entry)) (12 + 4 * rules) 0 (rules + 1) ⌝ }
+// The directory is sound, where the cursor stands at entry `first` and the part before that one ends at `end`.
+pub fn directory_sound(image: &[u8], rules: usize, start: Cursor, first: usize, end: usize) -> bool
+    requires { ⌜ (rules ≡ rulesOf (now image)) × (rules ≤ 96) × (Along (now image) start end first) ⌝ }
+    ensures { λ r. ⌜ r ≡ not (badDirectory (now (image .entry))) ⌝ }
 {
     let mut cursor = start;
-    let mut ends = 12 + 4 * rules;
-    let mut i: usize = 0;
+    let mut ends = end;
+    let mut i = first;
     while i < rules + 1 {
-        let Entry::Read { offset, size, next } = cursor.entry(image) else {
+        let Follow::Read { to, next } = cursor.follow(image, ends) else {
             return false;
         };
-        let from = offset as usize;
-        if from != ends {
-            return false;
-        }
-        ends = from + (size as usize);
+        ends = to;
         cursor = next;
         i += 1;
     }
     ends == image.len()
-}
-
-// The directory fits the image and keeps the offset rule.
-pub fn directory_sound(image: &[u8], rules: usize, start: Cursor) -> bool
-    requires { ⌜ (rules ≤ 96) × (rules ≡ rulesOf (now image)) × (start .at ≡ 8) ⌝ }
-    ensures { λ r. ⌜ r ≡ not (badDirectory (now (image .entry))) ⌝ }
-{
-    if image.len() < 12 + 4 * rules {
-        return false;
-    }
-    parts_follow(image, rules, start)
 }

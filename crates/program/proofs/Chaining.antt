@@ -18,9 +18,9 @@ use Rattle.literals.proofs.Members.{has-union}
 use Rattle.program.specs.Program.{Program, defeasibles, bitOf}
 use Rattle.program.specs.Limits.{DefeasibleAt, Limits}
 use Rattle.program.specs.Beats.{Beats, listed, through}
-use Rattle.program.specs.inside.Table.{beatenAt, BeatenMask}
+use Rattle.program.specs.inside.Table.{beatenAt}
 use Rattle.program.specs.inside.Store.{withBeaten}
-use Rattle.program.specs.inside.Filling.{RowsTo, ListedTo, takenOver, HandedOn, Chained}
+use Rattle.program.specs.inside.Filling.{RowsTo, ListedIn, takenOver, HandedOn, Chained}
 use Rattle.program.proofs.Numbers.{defeasible-test, defeasible-found, bit-of-below}
 use Rattle.program.proofs.Pairs.{listed-found, listed-has}
 use Rattle.program.proofs.Fillings.{rows-same}
@@ -145,7 +145,7 @@ pub record ChainedTo (p : Program) (k : ℕ) (t : List ℕ) : Type 0 where
       → has (beatenAt t i) c ≡ true → has (beatenAt t c) j ≡ true → has (beatenAt t i) j ≡ true
 
 module _ {p : Program} (limits : Limits p) where
-  pub chained-start : {t : List ℕ} → ListedTo p (length (p .rules)) t → ChainedTo p 0 t
+  pub chained-start : {t : List ℕ} → ListedIn p t → ChainedTo p 0 t
   chained-start {t} b = record {
     rows = b .rows;
     sound = λ a d j h.
@@ -231,7 +231,7 @@ module _ {p : Program} (limits : Limits p) where
           (bit-of-below (p .rules) (q .first)) (c .direct a m i) (ends u)
 
   -- where no pair is listed nothing is beaten
-  pub chained-none : {t : List ℕ} → length (p .pairs) ≡ 0 → ListedTo p (length (p .rules)) t → Chained p t
+  pub chained-none : {t : List ℕ} → length (p .pairs) ≡ 0 → ListedIn p t → Chained p t
   chained-none {t} e b =
       let c = chained-start b in
       record {

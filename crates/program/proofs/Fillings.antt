@@ -1,11 +1,10 @@
 -- Filling the rule table, rule by rule.
 use mathlib.Core.Path.{_≡_, refl, sym, ap, ap₂, subst, _∙_}
-use mathlib.Core.Bool.{Bool, true, false}
+use mathlib.Core.Bool.{Bool, true}
 use mathlib.Core.List.{List, [], _∷_}
 use mathlib.Core.Logic.{_⊎_, inl, inr}
 use Prim.Native.Nat.{ℕ, zero, suc, _+_, _*_, _^_, _<_, _≤_}
 use native.Mathlib.Nat.{eq-or-lt-of-le}
-use native.Mathlib.Decide.{decLt, ℕ-discrete}
 use native.Mathlib.Omega.{arith}
 use lib.ListN.{length, getD, set, take, length-set}
 use lib.Seq.{getD-set-same, getD-set-other}
@@ -14,9 +13,9 @@ use Rattle.literals.specs.Sets.{choose, insertAll}
 use Rattle.literals.specs.inside.Words.{joined, setOf}
 use Rattle.program.specs.Program.{Kind, strict, defeasible, Rule, Program, isDefeasible, nextBit, defeasiblesFrom, defeasibles, bitOf, ruleAt}
 use Rattle.program.specs.Limits.{DefeasibleAt}
-use Rattle.program.specs.inside.Table.{Row, ruleOfBit, beatenAt, needOf, BeatenMask, Holds}
-use Rattle.program.specs.inside.Store.{withRow, withBit, withBeaten, withCounts}
-use Rattle.program.specs.inside.Filling.{SameRow, Stored, RowsTo, listedMask, ListedTo, Chained}
+use Rattle.program.specs.inside.Table.{Row, ruleOfBit, needOf, BeatenMask, Holds}
+use Rattle.program.specs.inside.Store.{withRow, withBit, withCounts}
+use Rattle.program.specs.inside.Filling.{SameRow, Stored, RowsTo, Chained}
 use Rattle.program.proofs.Numbers.{defeasible-found, bit-of-less, bit-of-below}
 use Rattle.program.proofs.Stores.{Beside, beside-row, beside-rows, row-beside, row-head, row-body, row-need, row-length}
 
@@ -46,7 +45,7 @@ row-behind t k v j l h = record {
   need-same = getD-set-other t k (4 * j + 3) v 0 (λ e. omega arith);
 }
 
-module _ (l : List Rule) (n : ℕ) (s t : List ℕ) (inside : n < length l) (few : length l ≤ 96) (bits : defeasibles l ≤ 16) where
+module _ (l : List Rule) (n : ℕ) (s t : List ℕ) (few : n ≤ 96) (bits : bitOf l n ≤ 16) where
   -- one rule more
   pub rows-more : RowsTo l n s → Stored (ruleAt l n) n (bitOf l n) s t → RowsTo l (suc n) t
   rows-more r k = record { row = λ i h. at i (eq-or-lt-of-le {n = i} {m = n} (omega arith)); rule-of = λ i h d. of i d (eq-or-lt-of-le {n = i} {m = n} (omega arith)) }
@@ -62,7 +61,6 @@ module _ (l : List Rule) (n : ℕ) (s t : List ℕ) (inside : n < length l) (few
       of i d (inr h) =
           let here : DefeasibleAt l i = defeasible-found l i d in
           let below = bit-of-less l here h in
-          let small = bit-of-below l here in
           k .bits-kept (bitOf l i) (omega arith) (λ e. omega arith) ∙ r .rule-of i h d
 
 -- ---- one rule, as the stores leave it
@@ -123,35 +121,6 @@ rows-same l n s t few bits same r = record {
 kept-rows : (l : List Rule) (n : ℕ) (s : List ℕ) (k v : ℕ) → n ≤ 96 → defeasibles l ≤ 16 → 400 ≤ k → RowsTo l n s → RowsTo l n (set s k v)
 kept-rows l n s k v few bits far r =
     rows-same l n s (set s k v) few bits (λ w h. getD-set-other s k w v 0 (λ e. omega arith)) r
-
-module _ (p : Program) (n : ℕ) (s : List ℕ) (inside : n < length (p .rules)) (few : length (p .rules) ≤ 96) (bits : defeasibles (p .rules) ≤ 16) where
-  pub listed-skip : ListedTo p n s → ruleAt (p .rules) n .kind ≡ strict → ListedTo p (suc n) s
-  listed-skip b k = record { rows = b .rows; listed-is = λ i h d. at i d (eq-or-lt-of-le {n = i} {m = n} (omega arith)) }
-    where
-      at : (i : ℕ) → isDefeasible (ruleAt (p .rules) i .kind) ≡ true → (i ≡ n) ⊎ (i < n) → beatenAt s (bitOf (p .rules) i) ≡ listedMask p i
-      at i d (inl e) =
-          absurd (let z : _≡_ {A = ℕ} 0 1 = ap (λ (t : Bool). choose t 0 1) (sym d ∙ ap (λ (j : ℕ). isDefeasible (ruleAt (p .rules) j .kind)) e ∙ ap isDefeasible k) in omega arith)
-      at i d (inr h) = b .listed-is i h d
-
-  pub listed-more : (t : List ℕ) → length s ≡ 419 → ListedTo p n s → ruleAt (p .rules) n .kind ≡ defeasible → t ≡ withBeaten s (bitOf (p .rules) n) (listedMask p n) → ListedTo p (suc n) t
-  listed-more t long b k e = subst (ListedTo p (suc n)) (sym e) (record {
-    rows = kept-rows (p .rules) (length (p .rules)) s (400 + bitOf (p .rules) n) (listedMask p n) few bits (omega arith) (b .rows);
-    listed-is = λ i h d. at i d (eq-or-lt-of-le {n = i} {m = n} (omega arith));
-  })
-    where
-      here : isDefeasible (ruleAt (p .rules) n .kind) ≡ true
-      here = ap isDefeasible k
-
-      room : bitOf (p .rules) n < defeasibles (p .rules)
-      room = bit-of-below (p .rules) (defeasible-found (p .rules) n here)
-
-      at : (i : ℕ) → isDefeasible (ruleAt (p .rules) i .kind) ≡ true → (i ≡ n) ⊎ (i < n) → beatenAt (withBeaten s (bitOf (p .rules) n) (listedMask p n)) (bitOf (p .rules) i) ≡ listedMask p i
-      at i d (inl q) =
-          subst (λ (j : ℕ). beatenAt (withBeaten s (bitOf (p .rules) n) (listedMask p n)) (bitOf (p .rules) j) ≡ listedMask p j) (sym q)
-          (let r = room in getD-set-same s (400 + bitOf (p .rules) n) (listedMask p n) 0 (omega arith))
-      at i d (inr h) =
-          let less = bit-of-less (p .rules) (defeasible-found (p .rules) i d) h in
-          getD-set-other s (400 + bitOf (p .rules) n) (400 + bitOf (p .rules) i) (listedMask p n) 0 (λ q. omega arith) ∙ b .listed-is i h d
 
 -- ---- and the counts
 module _ (p : Program) (s t : List ℕ) (few : length (p .rules) ≤ 96) (bits : defeasibles (p .rules) ≤ 16) where

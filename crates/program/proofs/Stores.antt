@@ -1,16 +1,16 @@
 -- What the rule table holds after a store: the new words where they were put, and the old ones elsewhere.
-use mathlib.Core.Path.{_≡_, refl, sym, ap, _∙_}
+use mathlib.Core.Path.{_≡_, refl, _∙_}
 use mathlib.Core.List.{List}
 use mathlib.Core.Logic.{_⊎_, inl, inr}
-use Prim.Native.Nat.{ℕ, suc, _+_, _*_, _<_, _≤_}
+use Prim.Native.Nat.{ℕ, _+_, _*_, _<_, _≤_}
 use native.Mathlib.Decide.{decLt}
 use native.Mathlib.Omega.{arith}
 use lib.ListN.{length, getD, set, length-set}
 use lib.Seq.{getD-set-same, getD-set-other}
 use Rattle.literals.specs.declared.LiteralSet.{LiteralSet}
-use Rattle.literals.specs.inside.Words.{joined, setOf}
-use Rattle.program.specs.inside.Table.{headAt, bodyAt, needAt, ruleOfBit}
-use Rattle.program.specs.inside.Store.{withRow, withBit, withBeaten, withCounts}
+use Rattle.literals.specs.inside.Words.{setOf}
+use Rattle.program.specs.inside.Table.{headAt, bodyAt, needAt}
+use Rattle.program.specs.inside.Store.{withRow}
 
 -- a word that is not one of the four from 4 * i on
 abbrev pub Beside : ℕ → ℕ → Type 0

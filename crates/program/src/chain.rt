@@ -4,7 +4,7 @@ ghost use Prim.Native.Nat.{_<_, _≤_};
 ghost use lib.ListN.{length};
 ghost use Rattle.program.specs.Program.{Program, defeasibles};
 ghost use Rattle.program.specs.Limits.{Limits};
-ghost use Rattle.program.specs.inside.Filling.{ListedTo, HandedOn, Chained};
+ghost use Rattle.program.specs.inside.Filling.{ListedIn, HandedOn, Chained};
 use crate::RuleTable;
 use crate::beaten;
 use crate::store_beaten;
@@ -35,7 +35,7 @@ fn hand_on(table: &mut RuleTable, bits: u64, k: u64)
 // turn. Where no pair is listed there is nothing to do.
 pub fn all(table: &mut RuleTable, bits: u64, pairs: usize)
     requires { ⌜ bits ≤ 16 ⌝ }
-    ensures { λ _. ⌜ (length (now (table .exit)) ≡ length (now (table .entry))) × ((p : Program) → Limits p → length (now (table .entry)) ≡ 419 → bits ≡ defeasibles (p .rules) → pairs ≡ length (p .pairs) → ListedTo p (length (p .rules)) (now (table .entry)) → Chained p (now (table .exit))) ⌝ }
+    ensures { λ _. ⌜ (length (now (table .exit)) ≡ length (now (table .entry))) × ((p : Program) → Limits p → length (now (table .entry)) ≡ 419 → bits ≡ defeasibles (p .rules) → pairs ≡ length (p .pairs) → ListedIn p (now (table .entry)) → Chained p (now (table .exit))) ⌝ }
 {
     if pairs == 0 {
         return;

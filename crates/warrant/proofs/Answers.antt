@@ -117,7 +117,7 @@ module _ (s : List ℕ) where
   list-count : (list : List ℕ) (room : ℕ) → listVerdict s room ≡ Accepted → ArgumentList (programIn s .rules) list
       → (listed s room ≡ lists.Count (length list)) × (listCall s room ≡ length list)
   unfolding listed
-  list-count list room e a = (counts, ap listedNumber counts)
+  list-count list room e a = (counts, let n = ap listedNumber counts in omega arith)
     where
       counts : listed s room ≡ lists.Count (length list)
       counts =

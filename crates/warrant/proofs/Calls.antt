@@ -107,7 +107,7 @@ module _ (s : List ℕ) (h b : ℕ) where
 
   pub host-refused : (n place : ℕ) → queried s h b 4096 4096 ≡ Refused n place → hostCall s h b ≡ n
   unfolding hostCall
-  host-refused n place e = ap packed e
+  host-refused n place e = let r = ap packed e in omega arith
 
 -- ---- the result of a call, by its verdict
 

@@ -45,7 +45,7 @@ verdict-zero (Refused n place) f =
 listed-small : (v : Verdict) (count : ℕ) → (v ≡ Accepted → count < 0x1_0000_0000)
     → ((n place : ℕ) → v ≡ Refused n place → Bounded n place)
     → (v ≡ Accepted) ↔ (listedNumber (listedBy v count) < 0x1_0000_0000)
-listed-small Accepted count g f = (λ e. g refl, λ h. refl)
+listed-small Accepted count g f = (λ e. omega (arith, g refl), λ h. refl)
 listed-small (Refused n place) count g f =
     let k = f n place refl in (
       λ e. absurd (let z : _≡_ {A = ℕ} 0 1 = cc in omega arith),
@@ -93,7 +93,7 @@ module _ (s : List ℕ) where
   -- the number of the trees call
   trees-carries : (h b al nl n place : ℕ) → queryVerdict s h b al nl ≡ Refused n place
       → treesCall s h b al nl ≡ refusalNumber n place
-  trees-carries h b al nl n place e = ap answeredNumber (queried-refused s h b al nl n place e)
+  trees-carries h b al nl n place e = let r = ap answeredNumber (queried-refused s h b al nl n place e) in omega arith
 
   hands-back : (c : Call) (n place : ℕ) → verdictOf s c ≡ Refused n place → HandsBack s c n place
   hands-back (query h b al nl) n place e = queried-refused s h b al nl n place e

@@ -32,19 +32,19 @@ pub fn query<'i, 'a, 't>(
     }
     if 128 <= literal {
         return Answer::Refused {
-            number: 20,
+            number: Answer::QUERY_LITERAL,
             place: 0,
         };
     }
     if 4096 < budget {
         return Answer::Refused {
-            number: 21,
+            number: Answer::BUDGET,
             place: 0,
         };
     }
     if room < budget as usize {
         return Answer::Refused {
-            number: 22,
+            number: Answer::NODE_TABLE,
             place: 0,
         };
     }

@@ -1,9 +1,8 @@
 -- `load` meets its contract: read, then cause 14 by what the strict rules derive.
-use mathlib.Core.Path.{_≡_, refl, sym, ap, ap₂, subst, _∙_}
+use mathlib.Core.Path.{_≡_, refl, sym, ap, ap₂, _∙_}
 use mathlib.Core.Bool.{Bool, true, false}
 use mathlib.Core.List.{List}
 use Prim.Native.Nat.{ℕ}
-use lib.ListN.{length}
 use Rattle.literals.specs.Sets.{clash}
 use Rattle.program.specs.Program.{Rule, Program, Π, Π-mask}
 use Rattle.program.specs.inside.Table.{Holds, Shaped}
@@ -14,7 +13,7 @@ use Rattle.layout.specs.declared.Verdict.{Verdict}
 use Rattle.layout.specs.declared.Verdict.the-variants.{Accepted, Refused}
 use Rattle.layout.specs.Causes.{refuse, andThen, verdict}
 use Rattle.layout.specs.Reading.{programIn}
-use Rattle.image.proofs.Accepted.{accepted-limits, loaded-holds}
+use Rattle.image.proofs.Accepted.{accepted-limits}
 use Rattle.calls.specs.Calls.{checkImage}
 use native.Mathlib.Omega.{arith}
 use borrow.Author.Needs.{needs}
@@ -67,7 +66,7 @@ close-requires : tie.Need-close-requires
 close-requires c κs =
     let s = c .before .before .before .before .before .before .before .args .image .now in
     let e = sym (c .before .before .before .before .read .ensures .0) ∙ c .before .before .enum-told .given .1 in
-    shaped s _ e (loaded-holds s _ _ (c .before .before .before .before .before .before .before .pre) e (c .before .before .before .before .read .ensures .1))
+    shaped s _ e (c .before .before .before .before .read .ensures .1 e)
 
 contradictory-requires : tie.Need-contradictory-requires
 contradictory-requires c κs = search needs
@@ -76,14 +75,14 @@ returns-2 : tie.Need-returns-2
 returns-2 c =
     let s = c .before .before .before .before .before .before .before .before .before .before .args .image .now in
     let e = sym (c .before .before .before .before .before .before .before .read .ensures .0) ∙ c .before .before .before .before .before .enum-told .given .1 in
-    let h = loaded-holds s _ _ (c .before .before .before .before .before .before .before .before .before .before .pre) e (c .before .before .before .before .before .before .before .read .ensures .1) in
+    let h = c .before .before .before .before .before .before .before .read .ensures .1 e in
     clashing s _ e (tested s _ _ _ _ _ (c .before .before .close .ensures) (c .before .before .before .empty .ensures) h (c .before .contradictory .ensures) (c .if1 .taken))
 
 returns-3 : tie.Need-returns-3
 returns-3 c =
     let s = c .before .before .before .before .before .before .before .before .before .before .args .image .now in
     let e = sym (c .before .before .before .before .before .before .before .read .ensures .0) ∙ c .before .before .before .before .before .enum-told .given .1 in
-    let h = loaded-holds s _ _ (c .before .before .before .before .before .before .before .before .before .before .pre) e (c .before .before .before .before .before .before .before .read .ensures .1) in
+    let h = c .before .before .before .before .before .before .before .read .ensures .1 e in
     accepted s _ e (tested s _ _ _ _ _ (c .before .before .close .ensures) (c .before .before .before .empty .ensures) h (c .before .contradictory .ensures) (c .if1 .left)) h
 
 pub load-spec : {M : Type 1} → statement M

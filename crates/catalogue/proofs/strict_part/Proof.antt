@@ -1,8 +1,7 @@
 -- An accepted image fills the table with its program.
-use mathlib.Core.Path.{_≡_, sym, _∙_}
-use lib.ListN.{length}
+use mathlib.Core.Path.{sym, _∙_}
 use Rattle.derivation.proofs.Tables.{limits-shaped}
-use Rattle.image.proofs.Accepted.{accepted-limits, loaded-holds}
+use Rattle.image.proofs.Accepted.{accepted-limits}
 use borrow.Author.Needs.{needs}
 use Rattle.catalogue.proofs.strict_part.Statement.{statement}
 use Rattle.catalogue.proofs.strict_part.Tie as tie
@@ -26,7 +25,7 @@ close-requires : tie.Need-close-requires
 close-requires c κs =
     let s = c .before .before .before .before .before .before .before .args .image .now in
     let e = sym (c .before .before .before .before .read .ensures .0) ∙ c .before .before .enum-told .given .1 in
-    limits-shaped _ _ (loaded-holds s _ _ (search needs) e (c .before .before .before .before .read .ensures .1)) (accepted-limits s e)
+    limits-shaped _ _ (c .before .before .before .before .read .ensures .1 e) (accepted-limits s e)
 
 literals-of-requires : tie.Need-literals-of-requires
 literals-of-requires c κs = search needs

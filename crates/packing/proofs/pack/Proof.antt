@@ -46,13 +46,13 @@ returns-3 : tie.Need-returns-3
 returns-3 c = omega (arith, ap packed (c .before .answer3 .given .1))
 
 returns-4 : tie.Need-returns-4
-returns-4 c = search needs
+returns-4 c = omega (arith, ap packed (c .enum-told .given .1))
 
 returns-5 : tie.Need-returns-5
 returns-5 c = omega (arith, ap packed (c .before .answer4 .given .1))
 
 returns-6 : tie.Need-returns-6
-returns-6 c = search needs
+returns-6 c = omega (arith, ap packed (c .before .answer5 .given .1))
 
 pub pack-spec : {M : Type 1} → statement M
 pack-spec =

@@ -15,7 +15,7 @@ refusal-requires : tie.Need-refusal-requires
 refusal-requires c κs = search needs
 
 returns : tie.Need-returns
-returns c = search needs
+returns c = sym (ap verdictNumber (c .enum-told .given .1))
 
 returns-2 : tie.Need-returns-2
 returns-2 c = c .refusal .ensures ∙ sym (ap verdictNumber (c .before .before .verdict .given .1))

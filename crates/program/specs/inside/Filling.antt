@@ -37,10 +37,10 @@ listedFrom l a m (p ∷ ps) = listedFrom l a (choose (eqb (p .0) a) (insert m (b
 abbrev pub listedMask : Program → ℕ → ℕ
 listedMask p a = listedFrom (p .rules) a 0 (p .pairs)
 
--- all rules are there, and of the first n the masks of those they beat by a listed pair
-pub record ListedTo (p : Program) (n : ℕ) (t : List ℕ) : Type 0 where
+-- all rules are there, each with the mask of those it beats by a listed pair
+pub record ListedIn (p : Program) (t : List ℕ) : Type 0 where
   pub rows : RowsTo (p .rules) (length (p .rules)) t
-  pub listed-is : (i : ℕ) → i < n → isDefeasible (ruleAt (p .rules) i .kind) ≡ true → beatenAt t (bitOf (p .rules) i) ≡ listedMask p i
+  pub listed-is : (i : ℕ) → i < length (p .rules) → isDefeasible (ruleAt (p .rules) i .kind) ≡ true → beatenAt t (bitOf (p .rules) i) ≡ listedMask p i
 
 -- what row i is to be once bit k has handed on what its rule beats: a row that has the bit takes it over
 abbrev pub takenOver : ℕ → List ℕ → ℕ → ℕ

@@ -1,67 +1,53 @@
--- What is left from part j on decides the whole.
-use mathlib.Core.Path.{_≡_, refl, sym, ap, _∙_}
-use mathlib.Core.List.{List}
-use native.Mathlib.Nat.{sub-zero}
-use mathlib.Core.Bool.{Bool}
-use Prim.Native.Nat.{ℕ, _-_, _<_, _≤_}
-use Rattle.layout.specs.Layout.{partOf}
-use Rattle.layout.specs.Causes.{standsIn, sameBytes}
-use Rattle.layout.proofs.Parts.{parts-fewer, located-order, located-inside, located-part, stands-step, stands-stop, stands-end}
-use borrow.Author.Needs.{needs}
+-- From link to link no row is the same so far.
+use Prim.Native.Nat.{_-_}
+use Rattle.literals.specs.inside.Words.{setOf}
+use Rattle.image.proofs.Repeated.{Missed, missed-start, missed-end, missed-found, missed-fewer, missed-next}
 use native.Mathlib.Omega.{arith}
+use borrow.Author.Needs.{needs}
 use Rattle.image.proofs.rules.repeated.Statement.{statement}
 use Rattle.image.proofs.rules.repeated.Tie as tie
 
 abbrev Inv-loop : tie.InvT-loop
-Inv-loop image bytes i j₀ j = standsIn image bytes 0 i ≡ standsIn image bytes j (i - j)
+Inv-loop table links i defeasible head body after₀ after = Missed table after i defeasible head (setOf body)
 
 abbrev μ-loop : tie.MeasureT-loop
-μ-loop image bytes i j₀ j = i - j
+μ-loop table links i defeasible head body after₀ after = after
+
+element-copy-out-wide : tie.Need-element-copy-out-wide Inv-loop μ-loop
+element-copy-out-wide c = omega (arith, c .pre .2)
+
+wide-requires : tie.Need-wide-requires Inv-loop μ-loop
+wide-requires c κs = search needs
 
 loop-holds : tie.Need-loop-holds Inv-loop μ-loop
-loop-holds c = rw sub-zero refl
+loop-holds c = missed-start (c .before .before .args .table .now) (c .before .before .args .links .now) (c .before .before .args .i) (c .before .before .pre .0) (c .before .before .args .defeasible) (c .before .before .args .head) (setOf (c .before .before .args .body)) _ (c .wide .ensures .0) (c .before .before .pre .2)
 
-locate-requires : tie.Need-locate-requires Inv-loop μ-loop
-locate-requires c κs = let p = c .before .before .before .before .pre in (parts-fewer _ _ _ (p .0) (omega arith), omega arith)
-
-sub-same : tie.Need-sub-same Inv-loop μ-loop
-sub-same c = located-order _ _ _ _ (c .locate .ensures)
-
-part-same-start : tie.Need-part-same-start Inv-loop μ-loop
-part-same-start c = located-order _ _ _ _ (c .locate .ensures)
-
-part-same-end : tie.Need-part-same-end Inv-loop μ-loop
-part-same-end c = located-inside _ _ _ _ (c .locate .ensures) _ (c .before .before .before .before .before .pre .0) (omega arith)
+sub-j : tie.Need-sub-j Inv-loop μ-loop
+sub-j c = omega arith
 
 same-requires : tie.Need-same-requires Inv-loop μ-loop
-same-requires c κs = search needs
-
--- what the comparison says of the part itself
-found : {b : Bool} (c : tie.After-same Inv-loop μ-loop) → c .same .result ≡ b → sameBytes (partOf (c .before .before .before .before .before .before .before .args .image .now) (c .before .before .before .before .loop .j)) (c .before .before .before .before .before .before .before .args .bytes .now) ≡ b
-found c e =
-    let a = c .before .before .before .before .before .before .before .args in
-    sym (ap (λ (p : List ℕ). sameBytes p (a .bytes .now)) (located-part _ _ _ _ (c .before .before .locate .ensures))) ∙ sym (c .same .ensures) ∙ e
+same-requires c κs = let m = c .before .loop .inv .early in omega (arith, c .before .before .before .before .pre .1)
 
 returns : tie.Need-returns Inv-loop μ-loop
-returns c =
-    let a = c .before .before .before .before .before .before .before .before .args in
-    let l = c .before .before .before .before .before .loop in
-    sym (l .inv ∙ stands-stop (a .image .now) (a .bytes .now) (a .i) (l .j) (omega arith) (found (c .before) (c .if1 .taken)))
+returns c = missed-found (c .before .before .before .before .before .before .args .table .now) (c .before .before .before .before .before .before .args .links .now) (c .before .before .before .before .before .before .args .i) (c .before .before .before .before .before .before .pre .0) (c .before .before .before .before .before .before .args .defeasible) (c .before .before .before .before .before .before .args .head) (setOf (c .before .before .before .before .before .before .args .body)) (c .before .before .before .loop .after - 1) (c .before .before .before .loop .after) (omega arith) (c .before .before .before .loop .inv) _ (c .before .same .ensures) (c .if1 .taken)
 
-add-j : tie.Need-add-j Inv-loop μ-loop
-add-j c = search needs
+add-wide : tie.Need-add-wide Inv-loop μ-loop
+add-wide c = let m = c .before .before .before .loop .inv .early in omega (arith, c .before .before .before .before .before .before .pre .1)
+
+element-copy-out-wide-2 : tie.Need-element-copy-out-wide-2 Inv-loop μ-loop
+element-copy-out-wide-2 c = let m = c .before .before .before .loop .inv .early in omega (arith, c .before .before .before .before .before .before .pre .1)
+
+wide-requires-2 : tie.Need-wide-requires-2 Inv-loop μ-loop
+wide-requires-2 c κs = search needs
 
 loop-less : tie.Need-loop-less Inv-loop μ-loop
-loop-less c = search needs
+loop-less c = omega (arith, c .wide2 .ensures .0, missed-fewer (c .before .before .before .before .before .before .before .before .args .table .now) (c .before .before .before .before .before .before .before .before .args .links .now) (c .before .before .before .before .before .before .before .before .args .i) (c .before .before .before .before .before .before .before .before .pre .0) (c .before .before .before .before .before .before .before .before .args .defeasible) (c .before .before .before .before .before .before .before .before .args .head) (setOf (c .before .before .before .before .before .before .before .before .args .body)) (c .before .before .before .before .before .loop .after - 1) (c .before .before .before .before .before .loop .after) (omega arith) (c .before .before .before .before .before .loop .inv))
 
 loop-again : tie.Need-loop-again Inv-loop μ-loop
-loop-again c =
-    let a = c .before .before .before .before .before .before .before .before .args in
-    let l = c .before .before .before .before .before .loop in
-    l .inv ∙ stands-step (a .image .now) (a .bytes .now) (a .i) (l .j) (omega arith) (found (c .before) (c .if1 .left))
+loop-again c = missed-next (c .before .before .before .before .before .before .before .before .args .table .now) (c .before .before .before .before .before .before .before .before .args .links .now) (c .before .before .before .before .before .before .before .before .args .i) (c .before .before .before .before .before .before .before .before .pre .0) (c .before .before .before .before .before .before .before .before .args .defeasible) (c .before .before .before .before .before .before .before .before .args .head) (setOf (c .before .before .before .before .before .before .before .before .args .body)) (c .before .before .before .before .before .loop .after - 1) (c .before .before .before .before .before .loop .after) (omega arith) (c .before .before .before .before .before .loop .inv) _ (c .before .before .before .same .ensures) _ (c .wide2 .ensures .0) (c .before .before .if1 .left)
 
 returns-2 : tie.Need-returns-2 Inv-loop μ-loop
-returns-2 c = let a = c .before .before .before .before .args in sym (c .before .loop .inv ∙ stands-end (a .image .now) (a .bytes .now) (a .i) (c .before .loop .j) (omega arith))
+returns-2 c = missed-end (c .before .before .before .before .args .table .now) (c .before .before .before .before .args .links .now) (c .before .before .before .before .args .i) (c .before .before .before .before .pre .0) (c .before .before .before .before .args .defeasible) (c .before .before .before .before .args .head) (setOf (c .before .before .before .before .args .body)) (c .before .loop .after) (omega arith) (c .before .loop .inv)
 
 pub repeated-spec : {M : Type 1} → statement M
 repeated-spec =
@@ -69,14 +55,15 @@ repeated-spec =
     (tie.spec
     Inv-loop
     μ-loop
+    element-copy-out-wide
+    wide-requires
     loop-holds
-    locate-requires
-    sub-same
-    part-same-start
-    part-same-end
+    sub-j
     same-requires
     returns
-    add-j
+    add-wide
+    element-copy-out-wide-2
+    wide-requires-2
     loop-less
     loop-again
     returns-2)

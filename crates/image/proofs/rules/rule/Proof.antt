@@ -1,80 +1,84 @@
--- `rule` meets its contract: causes 4 to 9 within the part, then 10.
-use mathlib.Core.Path.{_≡_, refl, sym, ap, ap₂, _∙_}
-use mathlib.Core.Bool.{Bool, true, false}
-use mathlib.Core.List.{List}
-use Prim.Native.Nat.{ℕ}
-use native.Mathlib.Nat.{le-refl}
-use Rattle.layout.specs.declared.Verdict.{Verdict}
-use Rattle.layout.specs.declared.Verdict.the-variants.{Accepted, Refused}
-use Rattle.layout.specs.Layout.{atomsOf, partOf}
-use Rattle.layout.specs.Causes.{badRepeat, partVerdict, standsIn}
-use Rattle.layout.proofs.Parts.{located-inside, located-part}
+-- `rule` meets its contract: the part, then cause 10, then the table.
+use mathlib.Core.Path.{_∙_}
+use mathlib.Core.Bool.{true}
+use Rattle.layout.specs.declared.Verdict.the-variants.{Accepted}
+use Rattle.layout.specs.Layout.{partOf}
+use Rattle.layout.specs.Reading.{ruleIn}
+use Rattle.layout.proofs.Parts.{located-order, located-part}
 use Rattle.image.proofs.EachRule.{rule-by}
+use Rattle.image.proofs.Walk.{refused-of, found, next-read, step-refused, step-next}
+use native.Mathlib.Omega.{arith}
 use borrow.Author.Needs.{needs}
 use Rattle.image.proofs.rules.rule.Statement.{statement}
 use Rattle.image.proofs.rules.rule.Tie as tie
 
-sub-bytes : tie.Need-sub-bytes
-sub-bytes c = search needs
-
-part-bytes-start : tie.Need-part-bytes-start
-part-bytes-start c = search needs
-
--- the verdict on the slice is the verdict on the part
-within : (s bytes : List ℕ) (atoms before i : ℕ) (v w : Verdict) → bytes ≡ partOf s i → atoms ≡ atomsOf s → v ≡ partVerdict bytes atoms before i → v ≡ w → partVerdict (partOf s i) (atomsOf s) before i ≡ w
-within s bytes atoms before i v w p a e q = ap₂ (λ (b : List ℕ) (n : ℕ). partVerdict b n before i) (sym p) (sym a) ∙ sym e ∙ q
-
-again : (s bytes : List ℕ) (i : ℕ) (r b : Bool) → bytes ≡ partOf s i → r ≡ standsIn s bytes 0 i → r ≡ b → badRepeat s i ≡ b
-again s bytes i r b p e q = ap (λ (l : List ℕ). standsIn s l 0 i) (sym p) ∙ sym e ∙ q
-
-part-bytes-end : tie.Need-part-bytes-end
-part-bytes-end c = located-inside _ _ _ _ (c .before .pre .4) _ (c .before .pre .0) (le-refl _)
-
 cast-place : tie.Need-cast-place
 cast-place c = search needs
 
-examine-requires : tie.Need-examine-requires
-examine-requires c κs = search needs
+sub-read : tie.Need-sub-read
+sub-read c = omega (arith, located-order _ _ _ _ (c .before .pre .1), c .before .pre .2)
+
+part-read-start : tie.Need-part-read-start
+part-read-start c = omega (arith, located-order _ _ _ _ (c .before .pre .1), c .before .pre .2)
+
+part-read-end : tie.Need-part-read-end
+part-read-end c = omega (arith, c .before .pre .2)
+
+read-requires : tie.Need-read-requires
+read-requires c κs = search needs
 
 enum-known-number : tie.Need-enum-known-number
 enum-known-number c = search needs
 
-returns : tie.Need-returns
-returns c =
-    let a = c .before .before .before .before .before .before .args in
-    let l = located-part _ _ _ _ (c .before .before .before .before .before .before .pre .4) in
-    sym (rule-by (a .image .now) (a .before) (a .i) _ _ (within _ _ _ _ _ _ _ l (c .before .before .before .before .before .before .pre .3) (c .before .before .before .examine .ensures) (c .before .number .given .1)) refl)
-
-enum-told : tie.Need-enum-told
-enum-told c = search needs
+enum-known-defeasible : tie.Need-enum-known-defeasible
+enum-known-defeasible c = search needs
 
 repeated-requires : tie.Need-repeated-requires
-repeated-requires c κs = search needs
+repeated-requires c κs =
+    let f = found (c .before .before .before .before .before .before .before .before .args .image .now) (c .before .before .before .before .before .before .before .before .args .i) (c .before .before .before .before .before .before .before .before .args .bits) (c .before .before .before .before .before .before .before .before .args .table .now) (c .before .before .before .before .before .before .before .before .args .links .now) (c .before .before .before .before .before .before .before .before .pre .0) (c .before .before .before .before .before .before .before .before .pre .3) (c .before .before .before .before .before .before .before .before .pre .4) _ _ _ _ (c .before .before .before .before .before .before .before .before .args .atoms) _ (located-part _ _ _ _ (c .before .before .before .before .before .before .before .before .pre .1)) (c .before .before .before .before .before .before .before .before .pre .5) (c .before .before .before .before .before .before .before .before .pre .6) (c .before .before .before .before .before .read .ensures) (c .before .before .before .defeasible .given .1) in
+    (c .before .before .before .before .before .before .before .before .pre .0 .linked, f .few, f .small)
+
+returns : tie.Need-returns
+returns c =
+    let s = c .before .before .before .before .before .before .before .before .before .before .args .image .now in
+    let f = found s (c .before .before .before .before .before .before .before .before .before .before .args .i) (c .before .before .before .before .before .before .before .before .before .before .args .bits) (c .before .before .before .before .before .before .before .before .before .before .args .table .now) (c .before .before .before .before .before .before .before .before .before .before .args .links .now) (c .before .before .before .before .before .before .before .before .before .before .pre .0) (c .before .before .before .before .before .before .before .before .before .before .pre .3) (c .before .before .before .before .before .before .before .before .before .before .pre .4) _ _ _ _ (c .before .before .before .before .before .before .before .before .before .before .args .atoms) _ (located-part _ _ _ _ (c .before .before .before .before .before .before .before .before .before .before .pre .1)) (c .before .before .before .before .before .before .before .before .before .before .pre .5) (c .before .before .before .before .before .before .before .before .before .before .pre .6) (c .before .before .before .before .before .before .before .read .ensures) (c .before .before .before .before .before .defeasible .given .1) in
+    step-refused s (c .before .before .before .before .before .before .before .before .before .before .args .i) (c .before .before .before .before .before .before .before .before .before .before .args .bits) _ _ _ _ (rule-by s (c .before .before .before .before .before .before .before .before .before .before .args .bits) (c .before .before .before .before .before .before .before .before .before .before .args .i) Accepted true (f .read .accepted) (f .repeat _ (c .before .repeated .ensures) ∙ c .if1 .taken))
+
+link-requires : tie.Need-link-requires
+link-requires c κs =
+    let f = found (c .before .before .before .before .before .before .before .before .before .before .before .args .image .now) (c .before .before .before .before .before .before .before .before .before .before .before .args .i) (c .before .before .before .before .before .before .before .before .before .before .before .args .bits) (c .before .before .before .before .before .before .before .before .before .before .before .args .table .now) (c .before .before .before .before .before .before .before .before .before .before .before .args .links .now) (c .before .before .before .before .before .before .before .before .before .before .before .pre .0) (c .before .before .before .before .before .before .before .before .before .before .before .pre .3) (c .before .before .before .before .before .before .before .before .before .before .before .pre .4) _ _ _ _ (c .before .before .before .before .before .before .before .before .before .before .before .args .atoms) _ (located-part _ _ _ _ (c .before .before .before .before .before .before .before .before .before .before .before .pre .1)) (c .before .before .before .before .before .before .before .before .before .before .before .pre .5) (c .before .before .before .before .before .before .before .before .before .before .before .pre .6) (c .before .before .before .before .before .before .before .before .read .ensures) (c .before .before .before .before .before .before .defeasible .given .1) in
+    (f .small, f .few)
+
+store-requires : tie.Need-store-requires
+store-requires c κs =
+    let f = found (c .before .before .before .before .before .before .before .before .before .before .before .before .before .args .image .now) (c .before .before .before .before .before .before .before .before .before .before .before .before .before .args .i) (c .before .before .before .before .before .before .before .before .before .before .before .before .before .args .bits) (c .before .before .before .before .before .before .before .before .before .before .before .before .before .args .table .now) (c .before .before .before .before .before .before .before .before .before .before .before .before .before .args .links .now) (c .before .before .before .before .before .before .before .before .before .before .before .before .before .pre .0) (c .before .before .before .before .before .before .before .before .before .before .before .before .before .pre .3) (c .before .before .before .before .before .before .before .before .before .before .before .before .before .pre .4) _ _ _ _ (c .before .before .before .before .before .before .before .before .before .before .before .before .before .args .atoms) _ (located-part _ _ _ _ (c .before .before .before .before .before .before .before .before .before .before .before .before .before .pre .1)) (c .before .before .before .before .before .before .before .before .before .before .before .before .before .pre .5) (c .before .before .before .before .before .before .before .before .before .before .before .before .before .pre .6) (c .before .before .before .before .before .before .before .before .before .before .read .ensures) (c .before .before .before .before .before .before .before .before .defeasible .given .1) in
+    (f .few, f .room, c .before .before .before .before .before .before .before .before .before .before .before .before .before .pre .0 .few)
 
 returns-2 : tie.Need-returns-2
-returns-2 c =
-    let a = c .before .before .before .before .before .before .before .args in
-    let l = located-part _ _ _ _ (c .before .before .before .before .before .before .before .pre .4) in
-    sym (rule-by (a .image .now) (a .before) (a .i) Accepted true (within _ _ _ _ _ _ _ l (c .before .before .before .before .before .before .before .pre .3) (c .before .before .before .before .examine .ensures) (c .before .before .enum-told .given .1)) (again _ _ _ _ _ l (c .before .repeated .ensures) (c .if1 .taken)))
+returns-2 c = step-refused _ _ _ _ _ _ _ (refused-of (c .before .before .before .before .before .before .args .image .now) _ (c .before .before .before .before .before .before .args .i) (c .before .before .before .before .before .before .args .atoms) (c .before .before .before .before .before .before .args .bits) _ (located-part _ _ _ _ (c .before .before .before .before .before .before .pre .1)) (c .before .before .before .before .before .before .pre .5) (c .before .before .before .read .ensures) _ _ (c .before .number .given .1))
 
 returns-3 : tie.Need-returns-3
 returns-3 c =
-    let a = c .before .before .before .before .before .before .before .args in
-    let l = located-part _ _ _ _ (c .before .before .before .before .before .before .before .pre .4) in
-    sym (rule-by (a .image .now) (a .before) (a .i) Accepted false (within _ _ _ _ _ _ _ l (c .before .before .before .before .before .before .before .pre .3) (c .before .before .before .before .examine .ensures) (c .before .before .enum-told .given .1)) (again _ _ _ _ _ l (c .before .repeated .ensures) (c .if1 .left)))
+    let s = c .before .before .before .before .before .before .before .before .before .before .before .before .before .before .args .image .now in
+    let f = found s (c .before .before .before .before .before .before .before .before .before .before .before .before .before .before .args .i) (c .before .before .before .before .before .before .before .before .before .before .before .before .before .before .args .bits) (c .before .before .before .before .before .before .before .before .before .before .before .before .before .before .args .table .now) (c .before .before .before .before .before .before .before .before .before .before .before .before .before .before .args .links .now) (c .before .before .before .before .before .before .before .before .before .before .before .before .before .before .pre .0) (c .before .before .before .before .before .before .before .before .before .before .before .before .before .before .pre .3) (c .before .before .before .before .before .before .before .before .before .before .before .before .before .before .pre .4) _ _ _ _ (c .before .before .before .before .before .before .before .before .before .before .before .before .before .before .args .atoms) _ (located-part _ _ _ _ (c .before .before .before .before .before .before .before .before .before .before .before .before .before .before .pre .1)) (c .before .before .before .before .before .before .before .before .before .before .before .before .before .before .pre .5) (c .before .before .before .before .before .before .before .before .before .before .before .before .before .before .pre .6) (c .before .before .before .before .before .before .before .before .before .before .before .read .ensures) (c .before .before .before .before .before .before .before .before .before .defeasible .given .1) in
+    step-next s (c .before .before .before .before .before .before .before .before .before .before .before .before .before .before .args .i) (c .before .before .before .before .before .before .before .before .before .before .before .before .before .before .args .bits) _ _ _
+    (next-read s (c .before .before .before .before .before .before .before .before .before .before .before .before .before .before .args .i) (c .before .before .before .before .before .before .before .before .before .before .before .before .before .before .args .bits) (c .before .before .before .before .before .before .before .before .before .before .before .before .before .before .args .table .now) (c .before .before .before .before .before .before .before .before .before .before .before .before .before .before .args .links .now) (c .before .before .before .before .before .before .before .before .before .before .before .before .before .before .pre .0) (c .before .before .before .before .before .before .before .before .before .before .before .before .before .before .pre .3) (c .before .before .before .before .before .before .before .before .before .before .before .before .before .before .pre .4) _ _ _ f _ _ _ (c .before .before .before .before .before .repeated .ensures) (c .before .before .before .before .if1 .left)
+    (c .store .ensures .1) (c .store .ensures .0) (c .store .ensures .2 (ruleIn (partOf s (c .before .before .before .before .before .before .before .before .before .before .before .before .before .before .args .i))) (c .before .before .before .before .before .before .before .before .before .before .before .before .before .before .pre .0 .long) (f .is)) _ (c .before .before .link .ensures))
 
 pub rule-spec : {M : Type 1} → statement M
 rule-spec =
     tie.close
     (tie.spec
-    sub-bytes
-    part-bytes-start
-    part-bytes-end
     cast-place
-    examine-requires
+    sub-read
+    part-read-start
+    part-read-end
+    read-requires
     enum-known-number
-    returns
-    enum-told
+    enum-known-defeasible
     repeated-requires
+    returns
+    link-requires
+    store-requires
     returns-2
     returns-3)

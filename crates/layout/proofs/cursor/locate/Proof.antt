@@ -1,51 +1,52 @@
--- `locate` meets its contract: the entry is there, and says where the part lies.
-use Rattle.layout.proofs.Parts.{entry-there, entry-locates}
+-- `locate` meets its contract: the entry's two numbers.
+use native.Mathlib.Omega.{arith}
+use mathlib.Core.Path.{_≡_, ap, _∙_}
+use Prim.Native.Nat.{_+_, _*_}
+use Rattle.layout.specs.Layout.{numberAt, sizeOf}
 use borrow.Author.Needs.{needs}
 use Rattle.layout.proofs.cursor.locate.Statement.{statement}
 use Rattle.layout.proofs.cursor.locate.Tie as tie
 
-directory-requires : tie.Need-directory-requires
-directory-requires c κs = search needs
+mul-entry : tie.Need-mul-entry
+mul-entry c = search needs
 
-entry-requires : tie.Need-entry-requires
-entry-requires c κs = search needs
+add-entry : tie.Need-add-entry
+add-entry c = search needs
 
-enum-known-offset : tie.Need-enum-known-offset
-enum-known-offset c = search needs
-
-enum-told : tie.Need-enum-told
-enum-told c = search needs
-
-returns : tie.Need-returns
-returns c =
-    let a = c .before .before .before .before .before .args in
-    let p = c .before .before .before .before .before .pre .0 in
-    absurd (entry-there (a .image .now) (a .i) _ (c .before .before .before .directory .ensures) p _ (c .before .before .entry .ensures) (c .enum-told .given .1))
+number-at-requires : tie.Need-number-at-requires
+number-at-requires c κs = search needs
 
 cast-from : tie.Need-cast-from
 cast-from c = search needs
 
-cast-t8 : tie.Need-cast-t8
-cast-t8 c = search needs
+add-number-at : tie.Need-add-number-at
+add-number-at c = search needs
 
-add-t9 : tie.Need-add-t9
-add-t9 c = search needs
+number-at-requires-2 : tie.Need-number-at-requires-2
+number-at-requires-2 c κs = search needs
 
-returns-2 : tie.Need-returns-2
-returns-2 c =
-    let a = c .before .before .before .before .before .before .args in
-    entry-locates (a .image .now) (a .i) _ (c .before .before .before .before .directory .ensures) _ _ _ _ (c .before .before .before .entry .ensures) (c .before .offset .given .1)
+cast-size : tie.Need-cast-size
+cast-size c = search needs
+
+add-t6 : tie.Need-add-t6
+add-t6 c = search needs
+
+returns : tie.Need-returns
+returns c =
+    let z : 8 + 4 * c .before .before .before .args .i + 2 ≡ 10 + 4 * c .before .before .before .args .i = omega arith in
+    let s : c .number-at2 .result ≡ sizeOf (c .before .before .before .args .image .now) (c .before .before .before .args .i) = c .number-at2 .ensures ∙ ap (numberAt (c .before .before .before .args .image .now)) z in
+    record { from-is = c .before .number-at .ensures; to-is = omega (arith, c .before .number-at .ensures, s) }
 
 pub locate-spec : {M : Type 1} → statement M
 locate-spec =
     tie.close
     (tie.spec
-    directory-requires
-    entry-requires
-    enum-known-offset
-    enum-told
-    returns
+    mul-entry
+    add-entry
+    number-at-requires
     cast-from
-    cast-t8
-    add-t9
-    returns-2)
+    add-number-at
+    number-at-requires-2
+    cast-size
+    add-t6
+    returns)

@@ -5,14 +5,14 @@ use native.Mathlib.Omega.{arith}
 use lib.ListN.{length}
 use Rattle.program.specs.Program.{Program, defeasibles}
 use Rattle.program.specs.Limits.{Limits}
-use Rattle.program.specs.inside.Filling.{ListedTo}
+use Rattle.program.specs.inside.Filling.{ListedIn}
 use Rattle.program.proofs.Chaining.{ChainedTo, chained-start, chained-turn, chained-end, chained-none}
 use borrow.Author.Needs.{needs}
 use Rattle.program.proofs.chain.all.Statement.{statement}
 use Rattle.program.proofs.chain.all.Tie as tie
 
 abbrev Inv-loop : tie.InvT-loop
-Inv-loop table₀ bits pairs k₀ table k = (length table ≡ length table₀) × ((p : Program) → Limits p → length table₀ ≡ 419 → bits ≡ defeasibles (p .rules) → ListedTo p (length (p .rules)) table₀ → ChainedTo p k table) × (k ≤ bits)
+Inv-loop table₀ bits pairs k₀ table k = (length table ≡ length table₀) × ((p : Program) → Limits p → length table₀ ≡ 419 → bits ≡ defeasibles (p .rules) → ListedIn p table₀ → ChainedTo p k table) × (k ≤ bits)
 
 abbrev μ-loop : tie.MeasureT-loop
 μ-loop table₀ bits pairs k₀ table k = bits - k
