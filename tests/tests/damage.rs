@@ -1,11 +1,14 @@
 //! The damaged images: what is known of them from construction against the reference, and
 //! whether the planted faults are really there.
 
-use std::collections::BTreeMap;
+use std::collections::{BTreeMap, BTreeSet, HashSet};
 
 use foqtirel_tests::generator::limits::LIMITS;
+use foqtirel_tests::generator::meetings;
+use foqtirel_tests::generator::scenario::can_share_a_place;
 use foqtirel_tests::generator::{
-    accepted, all_scenarios, damaged, first_fault, Arrangement, Case, Scenario, Verdict,
+    accepted, all_scenarios, changed, damaged, first_fault, Arrangement, Case, Scenario, Verdict,
+    MADE_BY_RULE,
 };
 use foqtirel_tests::reference::check;
 
@@ -235,5 +238,128 @@ fn nothing_comes_before_the_first_planted_fault() {
         if expected.0 != 14 {
             assert_eq!(first_fault(&there), expected, "{case:02X?}");
         }
+    }
+}
+
+fn made_by_rule() -> impl Iterator<Item = Case> {
+    MADE_BY_RULE.iter().flat_map(|(_, make)| make())
+}
+
+#[test]
+fn images_made_by_rule_and_reference_agree() {
+    let mut by_cause: BTreeMap<u32, usize> = BTreeMap::new();
+    let mut different: HashSet<Vec<u8>> = HashSet::new();
+    for case in made_by_rule() {
+        assert_expected(&case);
+        *by_cause.entry(case.expected.expect("known").0).or_default() += 1;
+        different.insert(case.image);
+    }
+    println!("{} images made by rule: {by_cause:?}", different.len());
+    assert!(different.len() >= 150_000, "only {}", different.len());
+    for cause in 0..=14 {
+        let seen = by_cause.get(&cause).copied().unwrap_or(0);
+        assert!(seen >= 20, "cause {cause} was seen {seen} times");
+    }
+}
+
+/// What is said of an image made by rule is there, and nothing comes before it. Where every fault is said, there are no others.
+#[test]
+fn images_made_by_rule_have_their_faults() {
+    let rule_or_pair = |fault: &Verdict| (4..=13).contains(&fault.0);
+    let mut looked_at = 0;
+    for case in made_by_rule() {
+        if case.planted.iter().any(|&(cause, _)| cause <= 3) {
+            continue;
+        }
+        let there = census(&case.image);
+        let expected = first_fault(&case.planted);
+        if rule_or_pair(&expected) {
+            assert_eq!(first_fault(&there), expected, "{case:02X?}");
+        } else {
+            assert_eq!(there, [], "{case:02X?}");
+        }
+        looked_at += 1;
+    }
+    assert!(looked_at > 30_000, "only {looked_at}");
+    for case in meetings::in_rules().into_iter().chain(meetings::in_pairs()) {
+        let mut planted = case.planted.clone();
+        let mut there = census(&case.image);
+        if planted.contains(&(11, 0)) {
+            planted.retain(|&(cause, _)| cause <= 11);
+            there.retain(|&(cause, _)| cause <= 11);
+        }
+        let planted: BTreeSet<Verdict> = planted.into_iter().filter(rule_or_pair).collect();
+        let there: BTreeSet<Verdict> = there.into_iter().collect();
+        assert_eq!(there, planted, "{case:02X?}");
+    }
+}
+
+/// Every two causes are together in some image: in one rule or pair where that can be, in neighbouring ones in both orders, and
+/// in the image as a whole.
+#[test]
+fn every_two_causes_meet() {
+    let mut anywhere: BTreeSet<(u32, u32)> = BTreeSet::new();
+    let mut in_one: BTreeSet<(u32, u32)> = BTreeSet::new();
+    let mut in_neighbours: BTreeSet<(u32, u32)> = BTreeSet::new();
+    for case in made_by_rule() {
+        for one in &case.planted {
+            for two in &case.planted {
+                let causes = (one.0, two.0);
+                let placed = |cause: u32| (4..=10).contains(&cause) || (12..=13).contains(&cause);
+                let alike = placed(one.0) && placed(two.0) && (one.0 <= 10) == (two.0 <= 10);
+                if one.0 < two.0 {
+                    anywhere.insert(causes);
+                    if alike && one.1 == two.1 {
+                        in_one.insert(causes);
+                    }
+                }
+                if alike && one.1 + 1 == two.1 {
+                    in_neighbours.insert(causes);
+                }
+            }
+        }
+    }
+    let every_two: BTreeSet<(u32, u32)> = (1..=14)
+        .flat_map(|one| (one + 1..=14).map(move |two| (one, two)))
+        .collect();
+    assert_eq!(anywhere, every_two);
+    for (one, two) in every_two {
+        let can_be = can_share_a_place(one, two);
+        // A faulty rule can repeat a faulty one, which is then refused first.
+        let twin = (4..=8).contains(&one) && two == 10;
+        assert_eq!(in_one.contains(&(one, two)), can_be || twin, "{one} {two}");
+    }
+    let rules = 4..=10;
+    let mut wanted: BTreeSet<(u32, u32)> = rules
+        .clone()
+        .flat_map(|one| rules.clone().map(move |two| (one, two)))
+        .collect();
+    // Only one rule is the 17th that is defeasible.
+    wanted.remove(&(9, 9));
+    wanted.extend([(12, 12), (12, 13), (13, 12), (13, 13)]);
+    assert_eq!(in_neighbours, wanted);
+}
+
+/// Another look at the changed images: where the directory is sound, the first of all faults that are there.
+#[test]
+fn changed_images_have_the_fault_that_the_reference_says() {
+    let mut by_cause: BTreeMap<u32, usize> = BTreeMap::new();
+    let mut different: HashSet<Vec<u8>> = HashSet::new();
+    for case in changed() {
+        let given = verdict(&case.image);
+        *by_cause.entry(given.0).or_default() += 1;
+        if given.0 == 0 || given.0 == 14 {
+            assert_eq!(census(&case.image), [], "{case:02X?}");
+        } else if given.0 > 3 {
+            assert_eq!(first_fault(&census(&case.image)), given, "{case:02X?}");
+        }
+        different.insert(case.image);
+    }
+    println!("{} changed images: {by_cause:?}", different.len());
+    assert!(different.len() >= 100_000, "only {}", different.len());
+    // No change is one of the length.
+    for cause in (0..=14).filter(|&cause| cause != 1) {
+        let seen = by_cause.get(&cause).copied().unwrap_or(0);
+        assert!(seen > 0, "no change leads to cause {cause}");
     }
 }

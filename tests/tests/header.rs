@@ -9,23 +9,11 @@ use foqtirel_binding::library;
 use foqtirel_tests::compiler::{
     assert_success, c_compilation, cpp_compilation, run, shared_library,
 };
-use foqtirel_tests::header::constants;
+use foqtirel_tests::header::{constants, in_capitals};
 use foqtirel_tests::reference::{Cause, Code, MOST_NODES};
 
 fn temporary(name: &str) -> PathBuf {
     Path::new(env!("CARGO_TARGET_TMPDIR")).join(name)
-}
-
-/// `ImageLength` as `IMAGE_LENGTH`.
-fn in_capitals(name: &str) -> String {
-    let mut capitals = String::new();
-    for (position, letter) in name.char_indices() {
-        if position > 0 && letter.is_uppercase() {
-            capitals.push('_');
-        }
-        capitals.extend(letter.to_uppercase());
-    }
-    capitals
 }
 
 #[test]

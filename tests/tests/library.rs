@@ -8,7 +8,8 @@ use foqtirel_binding::{
     answered, answered_with_trees, check, granted, list, query, raw, trees, Answer, Node, Refusal,
 };
 use foqtirel_tests::fittings::{F, FITTINGS};
-use foqtirel_tests::generator::{damaged, Description};
+use foqtirel_tests::generator::late::late;
+use foqtirel_tests::generator::{damaged, Case, Description, MADE_BY_RULE};
 use foqtirel_tests::reference::{self, Analysis, Cause, Code, NodeEntry};
 use foqtirel_tests::vectors;
 
@@ -301,6 +302,61 @@ fn refused_images_leave_the_tables() {
         seen.insert(cause.cause.number());
     }
     assert_eq!(seen, (1..=14).collect());
+}
+
+/// Every call refuses the image with what is expected, and leaves tables of these lengths as they were.
+#[track_caller]
+fn assert_refused_by_every_call(case: &Case, lengths: (usize, usize)) {
+    let (number, place) = case.expected.expect("a known outcome");
+    let image = &case.image;
+    let wanted = Err(refusal(number, place));
+    assert_eq!(granted(check(image)), wanted, "{case:02X?}");
+    let (mut arguments, mut nodes) = tables(lengths.0, lengths.1);
+    let listed = granted(list(image, &mut arguments));
+    assert_eq!(listed, wanted, "{case:02X?}");
+    for (literal, budget) in [(0, lengths.1 as u32), (200, 9999)] {
+        let given = granted(trees(image, literal, budget, &mut arguments, &mut nodes));
+        assert_eq!(given, wanted, "{case:02X?}");
+        assert_eq!(query(image, literal, budget), number, "{case:02X?}");
+    }
+    assert!(
+        (arguments, nodes) == tables(lengths.0, lengths.1),
+        "tables touched: {case:02X?}"
+    );
+}
+
+/// The images made by rule, in each call that reads one. One of 16 defeasible rules takes long to list.
+#[test]
+fn images_made_by_rule_are_refused_by_every_call() {
+    let mut refused = 0;
+    for (_, make) in MADE_BY_RULE {
+        for case in make() {
+            match case.expected.expect("a known outcome") {
+                (0, 0) => assert_eq!(check(&case.image), 0, "{case:02X?}"),
+                _ => {
+                    assert_refused_by_every_call(&case, (5, 3));
+                    refused += 1;
+                }
+            }
+        }
+    }
+    assert!(refused > 100_000, "only {refused} images were refused");
+}
+
+/// A refusal at the last rule, at the last pair or after it leaves tables of any length as they were.
+#[test]
+fn late_refusals_leave_the_tables() {
+    let mut seen: BTreeSet<(u32, u32)> = BTreeSet::new();
+    for case in late() {
+        seen.extend(case.expected);
+        for lengths in [(0, 0), (1, 1), (96, 16), (TABLE, TABLE), (70_000, 5000)] {
+            assert_refused_by_every_call(&case, lengths);
+        }
+    }
+    assert_eq!(
+        seen.into_iter().collect::<Vec<_>>(),
+        [(10, 95), (12, 239), (13, 239), (14, 0)]
+    );
 }
 
 /// Null with no entries is a table without entries: enough for a program without arguments, and for a budget of 0.

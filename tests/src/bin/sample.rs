@@ -10,6 +10,8 @@ use std::process::ExitCode;
 use foqtirel_binding::raw::{foqtirel_list, foqtirel_trees};
 use foqtirel_binding::{answered, answered_with_trees, check, granted, query, Node};
 use foqtirel_tests::generator::accepted::small_programs;
+use foqtirel_tests::generator::late::late;
+use foqtirel_tests::generator::lengths::cut_and_continued;
 use foqtirel_tests::generator::{accepted, chained, damaged};
 use foqtirel_tests::reference::image::defeasible_rules;
 use foqtirel_tests::vectors;
@@ -69,6 +71,11 @@ fn run(counts: &mut Counts) {
         if defeasible_rules(&case.image) <= MOST_RULES {
             ask(&case.image, turn as u32 % 131, 12, turn % 3, counts);
         }
+    }
+    // Where an image ends early, or is refused when nearly all of it has been read.
+    for case in cut_and_continued().into_iter().chain(late()) {
+        let image: Box<[u8]> = case.image.into();
+        counts.result(granted(check(&image)).is_ok());
     }
 }
 

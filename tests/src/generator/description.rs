@@ -16,6 +16,22 @@ impl RuleText {
     }
 }
 
+pub fn strict(head: u8, body: &[u8]) -> RuleText {
+    RuleText {
+        defeasible: false,
+        head,
+        body: body.to_vec(),
+    }
+}
+
+pub fn defeasible(head: u8, body: &[u8]) -> RuleText {
+    RuleText {
+        defeasible: true,
+        head,
+        body: body.to_vec(),
+    }
+}
+
 /// A program to be put into an image. Nothing is checked, sorted or repaired.
 #[derive(Clone, Debug, Default, PartialEq, Eq)]
 pub struct Description {

@@ -1,6 +1,6 @@
 //! The limits of document 01, each from both sides.
 
-use super::description::{Description, Parts, RuleText};
+use super::description::{defeasible, strict, Description, Parts, RuleText};
 use super::random::Random;
 use super::soundrules::RuleSupply;
 use super::{Case, Verdict};
@@ -65,33 +65,11 @@ pub const LIMITS: &[(&str, Limit)] = &[
 pub fn limit(random: &mut Random, index: usize) -> Case {
     let (name, make) = LIMITS[index % LIMITS.len()];
     let (image, expected) = make(random);
-    Case {
-        image,
-        expected: Some(expected),
-        planted: if expected == ACCEPTED {
-            Vec::new()
-        } else {
-            vec![expected]
-        },
-        scenario: None,
-        note: format!("limit: {name}"),
-    }
-}
-
-fn strict(head: u8, body: &[u8]) -> RuleText {
-    RuleText {
-        defeasible: false,
-        head,
-        body: body.to_vec(),
-    }
-}
-
-fn defeasible(head: u8, body: &[u8]) -> RuleText {
-    RuleText {
-        defeasible: true,
-        head,
-        body: body.to_vec(),
-    }
+    let planted = match expected {
+        ACCEPTED => Vec::new(),
+        _ => vec![expected],
+    };
+    Case::with_faults(image, planted, format!("limit: {name}"))
 }
 
 /// So many different sound rules in any order, the given number of them defeasible.

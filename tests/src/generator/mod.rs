@@ -2,12 +2,17 @@
 
 pub mod accepted;
 pub mod chained;
+pub mod changes;
 pub mod damage;
 pub mod description;
+pub mod late;
+pub mod lengths;
 pub mod limits;
 pub mod listing;
+pub mod meetings;
 pub mod noise;
 pub mod random;
+pub mod repeats;
 pub mod scenario;
 pub mod soundrules;
 pub mod spoil;
@@ -35,6 +40,30 @@ pub struct Case {
     pub note: String,
 }
 
+impl Case {
+    /// An image with these faults, the first of which is to be reported; accepted if there are none.
+    pub fn with_faults(image: Vec<u8>, planted: Vec<Verdict>, note: impl Into<String>) -> Case {
+        Case {
+            image,
+            expected: Some(first_fault(&planted)),
+            planted,
+            scenario: None,
+            note: note.into(),
+        }
+    }
+
+    /// An image of which nothing is known.
+    pub fn unknown(image: Vec<u8>, note: impl Into<String>) -> Case {
+        Case {
+            image,
+            expected: None,
+            planted: Vec::new(),
+            scenario: None,
+            note: note.into(),
+        }
+    }
+}
+
 /// `count` images, most of them damaged with a known outcome: all scenarios in turn, and among
 /// them several faults at once, the limits from both sides, and noise.
 pub fn damaged(seed: u64, count: usize) -> impl Iterator<Item = Case> {
@@ -55,6 +84,40 @@ pub fn damaged(seed: u64, count: usize) -> impl Iterator<Item = Case> {
             damage::staged(&mut random, scenario)
         }
     })
+}
+
+type Make = fn() -> Vec<Case>;
+
+/// Images that are made by rule and not at random, all with a known outcome, by what they are about.
+pub const MADE_BY_RULE: &[(&str, Make)] = &[
+    (
+        "a faulty rule with others and with pairs",
+        meetings::in_rules,
+    ),
+    ("a faulty rule and the directory", meetings::with_directory),
+    ("length, header, directory and rule", meetings::with_header),
+    ("length and header", meetings::short_headers),
+    ("faulty pairs", meetings::in_pairs),
+    ("repeats at every place", repeats::at_every_place),
+    ("no repeats, though nearly", repeats::nearly),
+    ("rows of four rules", repeats::rows),
+    ("facts twice", repeats::facts),
+    ("a 17th rule that repeats", repeats::seventeenth),
+    ("cut short and continued", lengths::cut_and_continued),
+    ("up to 12 equal bytes", lengths::uniform),
+    ("no rules", lengths::without_rules),
+    ("empty parts", lengths::empty_parts),
+    ("one long part", lengths::one_long_part),
+    ("refused late", late::late),
+];
+
+/// Sound images with one byte or two or the parts changed, whatever comes of it.
+pub fn changed() -> impl Iterator<Item = Case> {
+    changes::of_one_byte()
+        .chain(changes::of_two_bytes())
+        .chain(changes::of_the_directory())
+        .chain(changes::of_the_parts())
+        .chain(changes::of_the_greatest())
 }
 
 /// The fault that document 01's order reaches first; acceptance if there is none.

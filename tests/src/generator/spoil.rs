@@ -28,7 +28,10 @@ pub fn rule(random: &mut Random, atoms: usize, sound: &[u8], causes: &[u32]) -> 
     }
     if wanted(6) {
         let bad = literal_out_of_range(random, atoms);
-        if wanted(7) && random.chance(50) {
+        if wanted(7) && body.len() < 8 && random.chance(40) {
+            // After those out of order.
+            body.push(bad);
+        } else if wanted(7) && random.chance(50) {
             // In front of a smaller literal, it is out of order and out of range in one.
             body[0] = bad;
         } else if !wanted(7) && !body.is_empty() && random.chance(60) {

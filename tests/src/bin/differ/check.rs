@@ -1,6 +1,6 @@
 //! The check of an image: construction, reference and library.
 
-use foqtirel_tests::generator::{accepted, damaged, Case, Verdict};
+use foqtirel_tests::generator::{accepted, changed, damaged, Case, Verdict, MADE_BY_RULE};
 use foqtirel_tests::reference;
 
 use crate::report::Report;
@@ -10,6 +10,19 @@ pub fn compare(seed: u64, damaged_count: usize, accepted_count: usize, report: &
     for case in cases {
         compare_one(&case, report);
     }
+    for (name, make) in MADE_BY_RULE {
+        let cases = make();
+        println!("check: {name}: {} images", cases.len());
+        for case in cases {
+            compare_one(&case, report);
+        }
+    }
+    let mut changes = 0;
+    for case in changed() {
+        compare_one(&case, report);
+        changes += 1;
+    }
+    println!("check: one byte or two or the parts changed: {changes} images");
 }
 
 fn compare_one(case: &Case, report: &mut Report) {

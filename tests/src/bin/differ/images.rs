@@ -1,5 +1,7 @@
 //! Counting the images of a comparison, and leaving out those that take the reference long.
 
+use foqtirel_tests::generator::{changed, Case, MADE_BY_RULE};
+use foqtirel_tests::reference::check;
 use foqtirel_tests::reference::image::defeasible_rules;
 
 use crate::report::Faults;
@@ -10,6 +12,15 @@ const MOST_QUICK: usize = 12;
 const MOST_CONTESTED: usize = 14;
 /// ... so only so many of them are compared, of the programs and of the damaged images each.
 const MOST_SLOW: usize = 40;
+
+/// Of the images made by rule and the changed ones, those that are accepted and quick.
+pub fn still_sound() -> impl Iterator<Item = Case> {
+    let made = MADE_BY_RULE.iter().flat_map(|(_, make)| make());
+    made.chain(changed()).filter(|case| {
+        let quick = defeasible_rules(&case.image) <= MOST_QUICK;
+        quick && check(&case.image).is_ok()
+    })
+}
 
 /// Where an image comes from.
 #[derive(Clone, Copy, PartialEq, Eq)]

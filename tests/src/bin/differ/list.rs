@@ -7,7 +7,7 @@ use foqtirel_tests::reference::image::defeasible_rules;
 use foqtirel_tests::reference::{Analysis, Refusal};
 use foqtirel_tests::vectors;
 
-use crate::images::Source;
+use crate::images::{still_sound, Source};
 use crate::lent;
 use crate::listreport::ListReport;
 
@@ -22,7 +22,8 @@ pub fn compare(seed: u64, report: &mut ListReport) {
     let mut random = Random::seeded(seed ^ 0x6C69_7374);
     let programs = accepted(seed, MIXED).chain(small_programs(seed, SMALL));
     compare_cases(Source::Program, programs, &mut random, report);
-    compare_cases(Source::Damaged, damaged(seed, DAMAGED), &mut random, report);
+    let damaged = damaged(seed, DAMAGED).chain(still_sound());
+    compare_cases(Source::Damaged, damaged, &mut random, report);
     compare_vectors(&mut random, report);
     compare_around_4096(&mut random, report);
     compare_many_arguments(&mut random, report);

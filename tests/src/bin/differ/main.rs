@@ -1,7 +1,7 @@
 //! Runs the proved library against the reference and against what is known from construction.
 //!
-//! `differ [seed] [damaged images] [accepted images]`; the two counts are those of the check. `--query` compares
-//! queries alone.
+//! `differ [seed] [damaged images] [accepted images]`; the two counts are those of the check, which takes all that are made by
+//! rule besides. `--query` compares queries alone.
 
 mod check;
 mod granted;

@@ -14,7 +14,7 @@ use foqtirel_tests::reference::{
 use foqtirel_tests::vectors;
 
 use crate::granted::Granted;
-use crate::images::Source;
+use crate::images::{still_sound, Source};
 use crate::lent;
 use crate::queryreport::{QueryReport, LITERALS};
 
@@ -49,7 +49,7 @@ pub fn compare(seed: u64, report: &mut QueryReport) {
     let chained = chained(seed ^ 0x6368_6169, CHAINED);
     let chained = chained.chain(chained_sixteen(!seed, CHAINED_SIXTEEN));
     compare_cases(Source::Chained, chained, &mut random, report);
-    let damaged = damaged(seed ^ 0x6461_6D61, DAMAGED);
+    let damaged = damaged(seed ^ 0x6461_6D61, DAMAGED).chain(still_sound());
     compare_cases(Source::Damaged, damaged, &mut random, report);
     for image in vectors::images() {
         compare_image(Source::Vector, &image, &mut random, report);

@@ -4,7 +4,7 @@ use std::collections::BTreeMap;
 
 use foqtirel_tests::generator::Verdict;
 
-const PROGRESS_EVERY: usize = 5_000;
+const PROGRESS_EVERY: usize = 50_000;
 /// Each of the causes 1 to 14 must be seen so often.
 const LEAST_PER_CAUSE: usize = 100;
 /// Differences beyond these are counted but not printed.
