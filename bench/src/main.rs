@@ -1,8 +1,10 @@
-//! Times the proved library against Rust, both built for release, in one run.
+//! Times the proved library against Rust, both built for release, in one run, and holds its instructions against those
+//! of the anchor.
 //!
 //! `--out FILE` keeps the table of the calls, `--compare FILE` prints what changed since such a file was written, and
 //! `--only TEXT` leaves out the images without the text in their name.
 
+mod anchor;
 mod calls;
 mod cases;
 mod child;
@@ -27,14 +29,15 @@ fn main() {
     }
     // Read before anything is measured, so that a wrong name shows at once, and --out may name the same file.
     let before = compare.map(|file| table::read(file));
-    let rows = measuring::table(&only);
+    let mut rows = measuring::table(&only);
+    let against = measuring::anchored(&only);
+    rows.extend(against.iter().map(|against| against.row.clone()));
     if let Some(file) = out {
         table::write(file, &rows);
     }
     if let Some(before) = before {
-        println!();
         table::compare(&before, &rows);
+        println!();
     }
-    println!();
-    measuring::targets(&rows);
+    measuring::targets(&rows, &against);
 }

@@ -1,8 +1,9 @@
-//! The table of the calls, and the targets.
+//! The table of the calls, that of the calls against the anchor, and the targets.
 
 use std::io::{stderr, IsTerminal};
 use std::time::{Duration, Instant};
 
+use crate::anchor::{self, Against};
 use crate::calls::{plain, proved, Call, Tables};
 use crate::cases::{self, Case};
 use crate::child::{ends_within, instructions, Side};
@@ -21,20 +22,32 @@ const MOST_TURNS: usize = 9;
 /// A typical query's instructions, from the image's bytes to the answer, and the seconds of advising on a vector.
 const MOST_INSTRUCTIONS: u64 = 400_000;
 const MOST_SECONDS: f64 = 5.0;
+/// How many times the anchor's instructions checking an image may take.
+const MOST_TIMES: f64 = 1.5;
 
 /// Prints the row of every call on the images whose name has the text in it.
 pub fn table(only: &str) -> Vec<Row> {
+    let mut cases = cases::all();
+    cases.retain(|case| case.name.contains(only));
+    if cases.is_empty() {
+        return Vec::new();
+    }
     println!("{HEAD}");
     let mut rows = Vec::new();
-    for case in cases::all().iter().filter(|case| case.name.contains(only)) {
+    for case in &cases {
         for call in Call::ALL {
             progress(&format!("{}, {}", case.name, call.name()));
             rows.push(row(case, call));
             println!("{}", rows[rows.len() - 1].line());
         }
     }
-    println!("-: would take over {} s", LIMIT.as_secs());
+    end_of_table();
     rows
+}
+
+/// Says what is missing in a table.
+fn end_of_table() {
+    println!("-: would take over {} s\n", LIMIT.as_secs());
 }
 
 fn row(case: &Case, call: Call) -> Row {
@@ -65,21 +78,80 @@ fn row(case: &Case, call: Call) -> Row {
     }
 }
 
-/// Holds the counts of the typical rows and the time to advise on each vector against the targets.
-pub fn targets(rows: &[Row]) {
-    for call in [Call::Query, Call::Host] {
-        let counts = rows
-            .iter()
-            .filter(|row| row.image.starts_with(cases::TYPICAL) && row.call == call.name())
-            .filter_map(|row| row.instructions);
-        if let Some(most) = counts.max() {
-            println!(
-                "typical {}: at most {most} instructions, target {MOST_INSTRUCTIONS}: {}",
-                call.name(),
-                word(most < MOST_INSTRUCTIONS)
-            );
+/// Prints what the calls take on the anchor's images whose name has the text in it, and what the anchor takes.
+pub fn anchored(only: &str) -> Vec<Against> {
+    let mut images = anchor::all();
+    images.retain(|image| image.case.name.contains(only));
+    if images.is_empty() {
+        return Vec::new();
+    }
+    println!("{}", anchor::HEAD);
+    let mut rows = Vec::new();
+    for image in &images {
+        for (call, anchor) in image.counts {
+            progress(&format!("{}, {}", image.case.name, call.name()));
+            let row = counted(&image.case, call);
+            rows.push(Against { row, anchor });
+            println!("{}", rows[rows.len() - 1].line());
         }
     }
+    end_of_table();
+    rows
+}
+
+/// The row of a call that the reference does not make.
+fn counted(case: &Case, call: Call) -> Row {
+    let mut lent = Tables::new();
+    let refused = proved(Call::Check, &case.image, case.literal, &mut lent);
+    assert_eq!(refused, 0, "{} is refused", case.name);
+    let ours = || proved(call, &case.image, case.literal, &mut lent);
+    Row {
+        image: case.name.clone(),
+        call: call.name().into(),
+        proved: 1e6 * best_alone(2, ours),
+        plain: None,
+        instructions: instructions(case, call, Side::Proved, LIMIT),
+        plain_instructions: None,
+    }
+}
+
+/// Holds what was measured, and the time to advise on each vector, against the targets.
+pub fn targets(rows: &[Row], against: &[Against]) {
+    for call in [Call::Query, Call::Host] {
+        typical_target(rows, call);
+    }
+    check_target(against);
+    advise_target();
+}
+
+fn typical_target(rows: &[Row], call: Call) {
+    let counts = rows
+        .iter()
+        .filter(|row| row.image.starts_with(cases::TYPICAL) && row.call == call.name())
+        .filter_map(|row| row.instructions);
+    if let Some(most) = counts.max() {
+        println!(
+            "typical {}: at most {most} instructions, target {MOST_INSTRUCTIONS}: {}",
+            call.name(),
+            word(most < MOST_INSTRUCTIONS)
+        );
+    }
+}
+
+fn check_target(against: &[Against]) {
+    let ratios = against
+        .iter()
+        .filter(|against| against.row.call == Call::Check.name())
+        .filter_map(|against| Some((against.ratio()?, &against.row.image)));
+    if let Some((times, name)) = ratios.max_by(|one, other| one.0.total_cmp(&other.0)) {
+        println!(
+            "check against the anchor: at most {times:.2} times ({name}), target {MOST_TIMES}: {}",
+            word(times <= MOST_TIMES)
+        );
+    }
+}
+
+fn advise_target() {
     let slowest = vectors::names("img").into_iter().map(advised);
     let (seconds, name) = slowest
         .max_by(|one, other| one.0.total_cmp(&other.0))

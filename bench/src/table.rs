@@ -2,7 +2,7 @@
 
 use std::fs;
 
-/// Times are in microseconds. What is not known was over the limit or could not be counted.
+/// Times are in microseconds. What is not known was over the limit, could not be counted, or was not asked for.
 #[derive(Clone)]
 pub struct Row {
     pub image: String,
@@ -14,12 +14,12 @@ pub struct Row {
 }
 
 pub const HEAD: &str =
-    "image            call      proved us  reference us    ratio  proved instr.  reference instr.";
+    "image              call      proved us  reference us    ratio  proved instr.  reference instr.";
 
 impl Row {
     pub fn line(&self) -> String {
         format!(
-            "{:<16} {:<7} {:>11.1} {:>13} {:>8} {:>14} {:>17}",
+            "{:<18} {:<7} {:>11.1} {:>13} {:>8} {:>14} {:>17}",
             self.image,
             self.call,
             self.proved,
@@ -79,17 +79,17 @@ pub fn read(file: &str) -> Vec<Row> {
 
 /// Prints by how much each row changed. Of the times only the ratio can be compared between two runs.
 pub fn compare(before: &[Row], now: &[Row]) {
-    println!("change in %      call    instructions    ratio");
+    println!("change in %        call    instructions    ratio");
     for row in now {
         let same = |other: &&Row| other.image == row.image && other.call == row.call;
         let Some(old) = before.iter().find(same) else {
-            println!("{:<16} {:<7} {:>12}", row.image, row.call, "new");
+            println!("{:<18} {:<7} {:>12}", row.image, row.call, "new");
             continue;
         };
         let count = |row: &Row| row.instructions.map(|count| count as f64);
         let ratio = |row: &Row| row.plain.map(|plain| row.proved / plain);
         println!(
-            "{:<16} {:<7} {:>12} {:>8}",
+            "{:<18} {:<7} {:>12} {:>8}",
             row.image,
             row.call,
             change(count(old), count(row)),
