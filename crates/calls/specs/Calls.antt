@@ -110,7 +110,8 @@ queryNodes = queryTable nodeOf
 abbrev pub codeAndNodes : Answer → ℕ
 codeAndNodes a = codeOf a * 65536 + nodesOf a
 
--- "It returns code × 65,536 + nodes, or a bare refusal number."
+-- "It returns code × 65,536 + nodes, or a bare refusal number.": an answer has no cause, and a refusal neither code nor
+-- nodes
 abbrev pub packed : Answer → ℕ
 packed a = answeredCause a + codeAndNodes a
 
