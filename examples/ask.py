@@ -49,13 +49,21 @@ class Foqtirel:
         asked = (ctypes.c_uint32, ctypes.c_uint32)
         arguments = (ctypes.POINTER(ctypes.c_uint32), ctypes.c_size_t)
         nodes = (ctypes.POINTER(Node), ctypes.c_size_t)
+        out = (ctypes.POINTER(ctypes.c_uint8), ctypes.c_size_t)
         self._check = declared(library.foqtirel_check, ctypes.c_uint64, image)
+        self._file = declared(library.foqtirel_file, ctypes.c_uint64, image + out)
         self._list = declared(library.foqtirel_list, ctypes.c_uint64, image + arguments)
         self._trees = declared(library.foqtirel_trees, ctypes.c_uint64, image + asked + arguments + nodes)
         self._query = declared(library.foqtirel_query, ctypes.c_uint32, image + asked)
 
     def check(self, image):
         granted(self._check(image, len(image)))
+
+    def file(self, image):
+        """The filed form: the same bytes for the same program, in whatever order it was typed."""
+        table = (ctypes.c_uint8 * len(image))()
+        length = granted(self._file(image, len(image), table, len(table)))
+        return bytes(table[:length])
 
     def list(self, image):
         """The arguments, each as mask * 128 + literal."""
@@ -113,12 +121,13 @@ def told(literal, arguments, nodes):
 
 
 def ask(library, image, literal, budget):
-    """All four calls. Raises Refused."""
+    """All five calls. Raises Refused."""
     foqtirel = Foqtirel(library)
     foqtirel.check(image)
     arguments = foqtirel.list(image)
     answer, count, nodes = foqtirel.trees(image, literal, budget)
-    assert foqtirel.query(image, literal, budget) == (answer, count)
+    for form in (image, foqtirel.file(image)):
+        assert foqtirel.query(form, literal, budget) == (answer, count)
     lines = [f"arguments {len(arguments)}"]
     if answer not in WITHOUT_TREES:
         lines += told(literal, arguments, nodes)

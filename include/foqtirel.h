@@ -1,11 +1,11 @@
 /*
- * Foqtirel: checks the program of an image, lists its arguments, and says whether it warrants a literal, with the literal's
- * dialectical trees or without.
+ * Foqtirel: checks the program of an image, writes its filed form, lists its arguments, and says whether it warrants a
+ * literal, with the literal's dialectical trees or without.
  *
  * Link with libfoqtirel.a, which `rt staticlib foqtirel` writes to target/staticlib/, for x86-64 and the System V calling
  * convention. It needs nothing else but the memory functions of a C library: memset, memcpy, memmove, memcmp.
  *
- * Its code is position independent, so that a shared library can be made of it, which offers the four calls:
+ * Its code is position independent, so that a shared library can be made of it, which offers the five calls:
  *
  *     cc -shared -Wl,--whole-archive target/staticlib/libfoqtirel.a -Wl,--no-whole-archive -o target/libfoqtirel.so
  *
@@ -67,21 +67,23 @@ struct foqtirel_node {
  * FOQTIREL_STACK_MOST bytes are enough for every call, image, literal and budget. FOQTIREL_STACK_12_RULES bytes are enough
  * for a program with at most 12 defeasible rules, as long as no line of the literal's trees has more than
  * FOQTIREL_STACK_12_LINE arguments; a budget of no more than that makes sure of it. One argument more on a line takes at
- * most FOQTIREL_STACK_LEVEL bytes; the lines are counted in the figures above. foqtirel_check and foqtirel_list grow no
- * trees: FOQTIREL_STACK_CHECK bytes are enough for every check, FOQTIREL_STACK_LIST bytes for every list, and
- * FOQTIREL_STACK_LIST_12 bytes for one of a program with at most 12 defeasible rules.
+ * most FOQTIREL_STACK_LEVEL bytes; the lines are counted in the figures above. foqtirel_check, foqtirel_file and
+ * foqtirel_list grow no trees: FOQTIREL_STACK_CHECK bytes are enough for every check, FOQTIREL_STACK_FILE bytes for every
+ * filing, FOQTIREL_STACK_LIST bytes for every list, and FOQTIREL_STACK_LIST_12 bytes for one of a program with at most 12
+ * defeasible rules.
  *
  * These figures are measured, not proved: the tests run the calls on threads with such stacks. For programs with up to 12
  * defeasible rules and with 16 of them they found enough, with short lines: 76 and 1,100 KiB for foqtirel_list, 132 and
  * 1,156 KiB for foqtirel_trees, 196 and 1,220 KiB for foqtirel_query; and 252 bytes for each argument more on a line. For
- * foqtirel_check 16 KiB are enough, and glibc makes no thread with less. A smaller stack is overrun, as it would be by any
- * C function.
+ * foqtirel_check and foqtirel_file 16 KiB are enough, and glibc makes no thread with less. A smaller stack is overrun, as
+ * it would be by any C function.
  */
 #define FOQTIREL_STACK_MOST (4u * 1024u * 1024u)
 #define FOQTIREL_STACK_12_RULES (512u * 1024u)
 #define FOQTIREL_STACK_12_LINE 512u
 #define FOQTIREL_STACK_LEVEL 512u
 #define FOQTIREL_STACK_CHECK (16u * 1024u)
+#define FOQTIREL_STACK_FILE (16u * 1024u)
 #define FOQTIREL_STACK_LIST (2u * 1024u * 1024u)
 #define FOQTIREL_STACK_LIST_12 (128u * 1024u)
 
@@ -114,6 +116,7 @@ struct foqtirel_node {
 #define FOQTIREL_BUDGET 21u                 /* trees, query: the budget is over 4,096 */
 #define FOQTIREL_NODE_TABLE 22u             /* trees: the node table has fewer entries than the budget */
 #define FOQTIREL_ARGUMENT_TABLE 23u         /* list, trees, query: more arguments than the argument table has entries */
+#define FOQTIREL_OUTPUT_TABLE 24u           /* file: the byte table is shorter than the image */
 
 /*
  * A result of foqtirel_query taken apart. A refused result has code 0, so a refusal is never taken for an answer. A number
@@ -124,14 +127,15 @@ struct foqtirel_node {
 #define FOQTIREL_NODES(result) (FOQTIREL_32_BITS(result) & 65535u)
 
 /*
- * A result of foqtirel_check, foqtirel_list or foqtirel_trees taken apart: whether it is a refusal; of a refusal its number
- * and place; of a list that is not refused the number of arguments; of trees that are not refused the answer's code and its
- * number of nodes. Again a refused result has code 0. A number of 32 bits, such as a result of foqtirel_query, does not
- * compile here: that call has its refusals elsewhere.
+ * A result of foqtirel_check, foqtirel_file, foqtirel_list or foqtirel_trees taken apart: whether it is a refusal; of a
+ * refusal its number and place; where it is none, of a filing the number of bytes, of a list the number of arguments, of
+ * trees the answer's code and its number of nodes. Again a refused result has code 0. A number of 32 bits, such as a result
+ * of foqtirel_query, does not compile here: that call has its refusals elsewhere.
  */
 #define FOQTIREL_REFUSED64(result) (FOQTIREL_64_BITS(result) >> 32 != 0u)
 #define FOQTIREL_NUMBER64(result) ((uint32_t)(FOQTIREL_64_BITS(result) >> 32))
 #define FOQTIREL_PLACE64(result) ((uint32_t)FOQTIREL_64_BITS(result))
+#define FOQTIREL_LENGTH64(result) ((uint32_t)FOQTIREL_64_BITS(result))
 #define FOQTIREL_COUNT64(result) ((uint32_t)FOQTIREL_64_BITS(result))
 #define FOQTIREL_CODE64(result) ((uint32_t)FOQTIREL_64_BITS(result) >> 16)
 #define FOQTIREL_NODES64(result) ((uint32_t)FOQTIREL_64_BITS(result) & 65535u)
@@ -142,7 +146,7 @@ struct foqtirel_node {
 #define FOQTIREL_64_BITS(result) ((uint64_t)(result) + 0u * sizeof(char[sizeof(result) == sizeof(uint64_t) ? 1 : -1]))
 
 /*
- * Of all four calls:
+ * Of all five calls:
  *
  *   image, length   the image's bytes. They stay the caller's, are only read, and have to stay as they are during the call.
  *                   Any bytes will do: what isn't a sound image is refused. NULL with length 0 is an empty image, refused
@@ -167,6 +171,24 @@ struct foqtirel_node {
  * FOQTIREL_REFUSED64, FOQTIREL_NUMBER64 and FOQTIREL_PLACE64.
  */
 uint64_t foqtirel_check(const uint8_t *image, size_t length);
+
+/*
+ * Writes the filed form of an image: the same program with its rules and pairs in one order, whatever order they were typed
+ * in. Rules ascend by kind, then by head, then by the number of body literals, then by the body's bytes; pairs name the
+ * rules by their new numbers, and ascend. The atom count and the numbers of the literals stay.
+ *
+ * Two sound images have the same filed form exactly when they have the same atom count, the same rules and the same listed
+ * pairs between these rules: memcmp on the two forms tells. The filed form is sound too, and its own filed form. Every call
+ * that answers gives the same refusal or answer and number of nodes for both, where the tables have the same lengths. Which
+ * rule has which bit in a mask may differ, and with it the order of lists and nodes.
+ *
+ *   out, room   the byte table. The filed form is written to its front and is as long as the image; the bytes past it stay
+ *               as they were. If the table is shorter than the image, the call is refused with FOQTIREL_OUTPUT_TABLE;
+ *               FOQTIREL_MOST_IMAGE bytes are always enough. It may not be the image itself.
+ *
+ * Returns the length of the filed form, or a refusal as foqtirel_check does. See FOQTIREL_REFUSED64 and FOQTIREL_LENGTH64.
+ */
+uint64_t foqtirel_file(const uint8_t *image, size_t length, uint8_t *out, size_t room);
 
 /*
  * Lists the arguments of the program in an image.

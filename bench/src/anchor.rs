@@ -38,6 +38,7 @@ fn parse(line: &str) -> Option<Anchored> {
             name: format!("{ANCHOR} {name}"),
             image: fs::read(directory().join(format!("{name}.img"))).ok()?,
             literal: literal.parse().ok()?,
+            calls: &[Call::Check, Call::List, Call::Query],
         },
         counts: [
             (Call::Check, check.parse().ok()?),

@@ -4,10 +4,12 @@ use foqtirel_binding::{self as library, Node};
 use foqtirel_tests::reference::{self, host_number, Analysis, NodeEntry, Refusal, MOST_NODES};
 
 const BUDGET: u32 = MOST_NODES as u32;
+const MOST_IMAGE: usize = 1836;
 
 #[derive(Clone, Copy)]
 pub enum Call {
     Check,
+    File,
     List,
     /// With lent tables.
     Query,
@@ -18,8 +20,9 @@ pub enum Call {
 }
 
 impl Call {
-    pub const ALL: [Call; 5] = [
+    pub const ALL: [Call; 6] = [
         Call::Check,
+        Call::File,
         Call::List,
         Call::Query,
         Call::Host,
@@ -29,6 +32,7 @@ impl Call {
     pub fn name(self) -> &'static str {
         match self {
             Call::Check => "check",
+            Call::File => "file",
             Call::List => "list",
             Call::Query => "query",
             Call::Host => "C call",
@@ -39,6 +43,7 @@ impl Call {
 
 /// What a caller lends.
 pub struct Tables {
+    bytes: Vec<u8>,
     arguments: Vec<u32>,
     nodes: Vec<Node>,
     entries: Vec<NodeEntry>,
@@ -47,6 +52,7 @@ pub struct Tables {
 impl Tables {
     pub fn new() -> Tables {
         Tables {
+            bytes: vec![0; MOST_IMAGE],
             arguments: vec![0; MOST_NODES],
             nodes: vec![Node::default(); MOST_NODES],
             entries: vec![NodeEntry::default(); MOST_NODES],
@@ -58,6 +64,7 @@ pub fn proved(call: Call, image: &[u8], literal: u32, lent: &mut Tables) -> u64 
     let (arguments, nodes) = (&mut lent.arguments, &mut lent.nodes);
     match call {
         Call::Check => library::check(image) >> 32,
+        Call::File => library::file(image, &mut lent.bytes),
         Call::List => library::list(image, arguments),
         Call::Query => library::trees(image, literal, BUDGET, arguments, nodes),
         Call::Host => library::query(image, literal, BUDGET).into(),
@@ -72,6 +79,10 @@ pub fn plain(call: Call, image: &[u8], literal: u32, lent: &mut Tables) -> u64 {
     let (arguments, entries) = (&mut lent.arguments, &mut lent.entries);
     match call {
         Call::Check => reference::check(image).map_or_else(number, |()| 0),
+        Call::File => {
+            let length = reference::file(image, &mut lent.bytes);
+            length.map_or_else(number, |length| length as u64)
+        }
         Call::List => reference::list(image, arguments).map_or_else(number, |count| count as u64),
         Call::Query => {
             let answer = reference::query(image, literal, BUDGET, arguments, entries);

@@ -1,16 +1,20 @@
-//! The images that are timed, each with the literal that is asked about: one with many nodes for the image.
+//! The images that are timed, each with the calls on it and the literal that is asked about: one with many nodes for the
+//! image.
 
 use std::path::PathBuf;
 use std::{env, fs};
 
+use crate::calls::Call;
 use crate::images::grown;
-use foqtirel_tests::generator::all_applicable;
+use foqtirel_tests::generator::filing::{alike, turned};
+use foqtirel_tests::generator::{all_applicable, Description};
 use foqtirel_tests::vectors;
 
 pub struct Case {
     pub name: String,
     pub image: Vec<u8>,
     pub literal: u32,
+    pub calls: &'static [Call],
 }
 
 impl Case {
@@ -26,6 +30,8 @@ impl Case {
 
 /// How the names of the typical ones begin, for the target.
 pub const TYPICAL: &str = "typical";
+/// The name of the longest image, for the target.
+pub const LONGEST: &str = "full1836";
 
 pub fn all() -> Vec<Case> {
     let mut cases = Vec::new();
@@ -34,6 +40,7 @@ pub fn all() -> Vec<Case> {
             name,
             image,
             literal,
+            calls: &Call::ALL,
         })
     };
     for (seed, rules, defeasible, literal) in [
@@ -58,5 +65,24 @@ pub fn all() -> Vec<Case> {
     ] {
         add(name.into(), vectors::image(name), literal);
     }
+    cases.extend(to_file());
     cases
+}
+
+/// Images that are hard to file: the longest one, as it is and in the reverse of its filed order, and 96 rules that only
+/// their last byte tells apart.
+fn to_file() -> [Case; 3] {
+    let longest = vectors::image(LONGEST);
+    let reverse = turned(&Description::of_image(&longest)).image();
+    [
+        (LONGEST, longest),
+        ("full1836 turned", reverse),
+        ("96 alike", alike().image()),
+    ]
+    .map(|(name, image)| Case {
+        name: name.into(),
+        image,
+        literal: 0,
+        calls: &[Call::Check, Call::File],
+    })
 }

@@ -30,6 +30,7 @@ fn main() {
     // Read before anything is measured, so that a wrong name shows at once, and --out may name the same file.
     let before = compare.map(|file| table::read(file));
     let mut rows = measuring::table(&only);
+    measuring::filed(&rows);
     let against = measuring::anchored(&only);
     rows.extend(against.iter().map(|against| against.row.clone()));
     if let Some(file) = out {

@@ -22,8 +22,9 @@ const MOST_TURNS: usize = 9;
 /// A typical query's instructions, from the image's bytes to the answer, and the seconds of advising on a vector.
 const MOST_INSTRUCTIONS: u64 = 400_000;
 const MOST_SECONDS: f64 = 5.0;
-/// How many times the anchor's instructions checking an image may take.
+/// How many times the anchor's instructions checking an image may take, and how many times a check's filing the longest.
 const MOST_TIMES: f64 = 1.5;
+const MOST_FILING: f64 = 3.0;
 
 /// Prints the row of every call on the images whose name has the text in it.
 pub fn table(only: &str) -> Vec<Row> {
@@ -35,7 +36,7 @@ pub fn table(only: &str) -> Vec<Row> {
     println!("{HEAD}");
     let mut rows = Vec::new();
     for case in &cases {
-        for call in Call::ALL {
+        for &call in case.calls {
             progress(&format!("{}, {}", case.name, call.name()));
             rows.push(row(case, call));
             println!("{}", rows[rows.len() - 1].line());
@@ -115,11 +116,54 @@ fn counted(case: &Case, call: Call) -> Row {
     }
 }
 
+/// What filing an image takes, and what checking it does.
+struct Filing<'a> {
+    image: &'a str,
+    check: u64,
+    file: u64,
+}
+
+impl Filing<'_> {
+    fn times(&self) -> f64 {
+        self.file as f64 / self.check as f64
+    }
+}
+
+/// The images for which both were counted.
+fn filings(rows: &[Row]) -> impl Iterator<Item = Filing<'_>> {
+    let count = |image: &str, call: Call| {
+        let row = |row: &&Row| row.image == image && row.call == call.name();
+        rows.iter().find(row)?.instructions
+    };
+    let files = rows.iter().filter(|row| row.call == Call::File.name());
+    files.filter_map(move |row| {
+        Some(Filing {
+            image: &row.image,
+            check: count(&row.image, Call::Check)?,
+            file: row.instructions?,
+        })
+    })
+}
+
+/// Prints how many times a check's instructions filing takes. The check is a part of it.
+pub fn filed(rows: &[Row]) {
+    if filings(rows).next().is_none() {
+        return;
+    }
+    println!("image               check instr.   file instr.    ratio");
+    for filing in filings(rows) {
+        let Filing { image, check, file } = filing;
+        println!("{image:<18} {check:>13} {file:>13} {:>8.2}", filing.times());
+    }
+    println!();
+}
+
 /// Holds what was measured, and the time to advise on each vector, against the targets.
 pub fn targets(rows: &[Row], against: &[Against]) {
     for call in [Call::Query, Call::Host] {
         typical_target(rows, call);
     }
+    file_target(rows);
     check_target(against);
     advise_target();
 }
@@ -134,6 +178,16 @@ fn typical_target(rows: &[Row], call: Call) {
             "typical {}: at most {most} instructions, target {MOST_INSTRUCTIONS}: {}",
             call.name(),
             word(most < MOST_INSTRUCTIONS)
+        );
+    }
+}
+
+fn file_target(rows: &[Row]) {
+    if let Some(filing) = filings(rows).find(|filing| filing.image == cases::LONGEST) {
+        let times = filing.times();
+        println!(
+            "file against check on the longest image: {times:.2} times, target {MOST_FILING}: {}",
+            word(times <= MOST_FILING)
         );
     }
 }

@@ -15,6 +15,12 @@ extern "C" {
     /// See [the module](self).
     pub fn foqtirel_check(image: *const u8, length: usize) -> u64;
 
+    /// The length of the filed form, or number × 2^32 + place.
+    ///
+    /// # Safety
+    /// See [the module](self).
+    pub fn foqtirel_file(image: *const u8, length: usize, out: *mut u8, room: usize) -> u64;
+
     /// The number of arguments, or number × 2^32 + place.
     ///
     /// # Safety

@@ -4,13 +4,14 @@
 use std::fs;
 use std::path::{Path, PathBuf};
 
+use crate::generator::Verdict;
 use crate::reference::NodeEntry;
 
 /// Vectors and literals with exactly as many nodes as the greatest budget, with one more, and with
 /// the longest line.
 pub const EXTREMES: [(&str, u32); 3] = [("n4096", 20), ("n4097", 28), ("deep180", 22)];
 
-/// The change requests that have vectors of their own.
+/// The change requests that have vectors of what `advise` prints.
 pub const REQUESTS: [&str; 1] = ["c11"];
 
 pub fn directory() -> PathBuf {
@@ -44,18 +45,59 @@ pub fn names(ending: &str) -> Vec<String> {
     names
 }
 
-/// The vectors of a change request: each image with what `advise` is to print for it.
-pub fn of_request(name: &str) -> Vec<(Vec<u8>, String)> {
-    let path = directory().join(format!("requests/{name}.txt"));
+/// The vectors of a change request, each the text before the first bar and the one after it.
+fn lines_of(request: &str) -> Vec<(String, String)> {
+    let path = directory().join(format!("requests/{request}.txt"));
     let text = fs::read_to_string(&path);
     let text = text.unwrap_or_else(|error| panic!("{}: {error}", path.display()));
     let lines = text.lines().filter(|line| !line.starts_with('#'));
     lines
-        .map(|line| {
-            let (image, advice) = line.split_once(" | ").expect("an image and its text");
-            (bytes(image), advice.replace('|', "\n") + "\n")
+        .map(|line| line.split_once(" | ").expect("two texts"))
+        .map(|(before, after)| (before.to_string(), after.to_string()))
+        .collect()
+}
+
+/// The vectors of a change request: each image with what `advise` is to print for it.
+pub fn of_request(name: &str) -> Vec<(Vec<u8>, String)> {
+    let advised = |(image, advice): (String, String)| {
+        let text = advice.replace('|', "\n") + "\n";
+        (bytes(&image), text)
+    };
+    lines_of(name).into_iter().map(advised).collect()
+}
+
+/// An image, the length of the byte table that is lent for it, and the filed form or the refusal.
+pub struct Filing {
+    pub image: Vec<u8>,
+    pub room: usize,
+    pub outcome: Result<Vec<u8>, Verdict>,
+}
+
+/// The vectors of request C-12.
+pub fn filings() -> Vec<Filing> {
+    lines_of("c12")
+        .iter()
+        .map(|(lent, outcome)| {
+            let (image, room) = lent.split_once(' ').expect("an image and a room");
+            Filing {
+                image: bytes(image),
+                room: room.parse().expect("a room"),
+                outcome: filing_outcome(outcome),
+            }
         })
         .collect()
+}
+
+fn filing_outcome(text: &str) -> Result<Vec<u8>, Verdict> {
+    let number = |text: &str| text.parse::<u32>().expect("a number");
+    if let Some(refusal) = text.strip_prefix("refused ") {
+        let (cause, place) = refusal.split_once(' ').expect("number and place");
+        return Err((number(cause), number(place)));
+    }
+    let (length, form) = text.split_once(" | ").expect("a length and a filed form");
+    let form = bytes(form);
+    assert_eq!(number(length) as usize, form.len(), "{text}");
+    Ok(form)
 }
 
 fn bytes(hexadecimal: &str) -> Vec<u8> {
@@ -72,6 +114,7 @@ pub fn images() -> Vec<Vec<u8>> {
     for request in REQUESTS {
         images.extend(of_request(request).into_iter().map(|(image, _)| image));
     }
+    images.extend(filings().into_iter().map(|filing| filing.image));
     images
 }
 

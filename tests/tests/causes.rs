@@ -10,10 +10,11 @@ use foqtirel_tests::header::{causes, in_capitals, root};
 use foqtirel_tests::reference::Cause;
 
 /// The enum that carries refusals, the file with its constants, and the causes that are its own.
-const CARRIERS: [(&str, &str, RangeInclusive<usize>); 3] = [
+const CARRIERS: [(&str, &str, RangeInclusive<usize>); 4] = [
     ("Verdict", "crates/layout/src/lib.rt", 1..=14),
     ("Answer", "crates/answer/src/lib.rt", 20..=23),
     ("Listed", "crates/calls/src/lib.rt", 23..=23),
+    ("Written", "crates/calls/src/lib.rt", 24..=24),
 ];
 
 fn text(path: &str) -> String {
@@ -43,7 +44,7 @@ fn constants_of(name: &str, path: &str) -> BTreeMap<String, usize> {
     found
 }
 
-/// The header has each cause of document 01 under its name and no others, and so has each carrier those that are its own.
+/// The header has each cause of document 01 and of the requests under its name and no others, and so has each carrier those that are its own.
 #[test]
 fn each_cause_has_its_constant() {
     let documented = Cause::ALL.iter().map(|cause| {
@@ -54,7 +55,7 @@ fn each_cause_has_its_constant() {
     assert_eq!(header, documented.collect());
     let mut numbers: Vec<usize> = header.values().copied().collect();
     numbers.sort_unstable();
-    assert_eq!(numbers, (1..=14).chain(20..=23).collect::<Vec<_>>());
+    assert_eq!(numbers, (1..=14).chain(20..=24).collect::<Vec<_>>());
     for (carrier, path, own) in CARRIERS {
         let mut wanted = header.clone();
         wanted.retain(|_, number| own.contains(number));

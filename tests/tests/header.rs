@@ -81,11 +81,14 @@ fn results_of_32_and_of_64_bits_do_not_pass_for_each_other() {
     };
     let wide = [
         "foqtirel_check(NULL, 0)",
+        "foqtirel_file(NULL, 0, NULL, 0)",
         "foqtirel_list(NULL, 0, NULL, 0)",
         "foqtirel_trees(NULL, 0, 0, 0, NULL, 0, NULL, 0)",
     ];
     let narrow = "foqtirel_query(NULL, 0, 0, 0)";
-    for name in ["REFUSED", "NUMBER", "PLACE", "COUNT", "CODE", "NODES"] {
+    for name in [
+        "REFUSED", "NUMBER", "PLACE", "LENGTH", "COUNT", "CODE", "NODES",
+    ] {
         let name = format!("{name}64");
         assert!(compiles(wide[0], &name), "{name}");
         assert!(!compiles(narrow, &name), "{name}");
@@ -99,8 +102,9 @@ fn results_of_32_and_of_64_bits_do_not_pass_for_each_other() {
 }
 
 /// The calls, in the order of their names.
-const CALLS: [&str; 4] = [
+const CALLS: [&str; 5] = [
     "foqtirel_check",
+    "foqtirel_file",
     "foqtirel_list",
     "foqtirel_query",
     "foqtirel_trees",

@@ -5,7 +5,8 @@ use std::ptr::{null, null_mut};
 use std::thread;
 
 use foqtirel_binding::{
-    answered, answered_with_trees, check, granted, list, query, raw, trees, Answer, Node, Refusal,
+    answered, answered_with_trees, check, file, granted, list, query, raw, trees, Answer, Node,
+    Refusal,
 };
 use foqtirel_tests::fittings::{F, FITTINGS};
 use foqtirel_tests::generator::late::late;
@@ -165,6 +166,11 @@ fn tables(arguments: usize, nodes: usize) -> (Vec<u32>, Vec<Node>) {
     (old_arguments, old_nodes)
 }
 
+/// A byte table with such contents.
+fn bytes(room: usize) -> Vec<u8> {
+    (0..room).map(|n| 0xA0 ^ n as u8).collect()
+}
+
 #[track_caller]
 fn assert_refused(image: &[u8], literal: u32, budget: u32, lengths: (usize, usize), cause: Cause) {
     let (mut arguments, mut nodes) = tables(lengths.0, lengths.1);
@@ -293,6 +299,9 @@ fn refused_images_leave_the_tables() {
             continue;
         };
         assert_eq!(check(&image), cause.packed());
+        let mut out = bytes(image.len());
+        assert_eq!(file(&image, &mut out), cause.packed());
+        assert_eq!(out, bytes(image.len()));
         let (mut arguments, mut nodes) = tables(9, 9);
         assert_eq!(list(&image, &mut arguments), cause.packed());
         let given = trees(&image, literal, 9, &mut arguments, &mut nodes);
@@ -311,6 +320,11 @@ fn assert_refused_by_every_call(case: &Case, lengths: (usize, usize)) {
     let image = &case.image;
     let wanted = Err(refusal(number, place));
     assert_eq!(granted(check(image)), wanted, "{case:02X?}");
+    for room in [lengths.0, image.len()] {
+        let mut out = bytes(room);
+        assert_eq!(granted(file(image, &mut out)), wanted, "{case:02X?}");
+        assert!(out == bytes(room), "bytes touched: {case:02X?}");
+    }
     let (mut arguments, mut nodes) = tables(lengths.0, lengths.1);
     let listed = granted(list(image, &mut arguments));
     assert_eq!(listed, wanted, "{case:02X?}");

@@ -17,9 +17,16 @@ static const uint8_t image[] = {2, 0, 3, 0, 1, 0, 0, 0, 24, 0, 2, 0, 26, 0, 3, 0
 /* The same with the kind of rule 2 out of range. */
 static uint8_t damaged[sizeof image];
 
+static uint8_t form[FOQTIREL_MOST_IMAGE];
 static uint32_t arguments[FOQTIREL_ARGUMENTS];
 static struct foqtirel_node nodes[FOQTIREL_MOST_NODES];
 static int asked;
+
+static uint64_t file(size_t room)
+{
+    asked++;
+    return foqtirel_file(image, sizeof image, form, room);
+}
 
 static uint64_t trees(uint32_t literal, uint32_t budget, size_t room, size_t node_room)
 {
@@ -44,6 +51,22 @@ static int results_of_check(void)
     result = foqtirel_check(NULL, 0);
     DEMAND(FOQTIREL_REFUSED64(result) && FOQTIREL_NUMBER64(result) == FOQTIREL_IMAGE_LENGTH);
     DEMAND(FOQTIREL_PLACE64(result) == 0u);
+    return 0;
+}
+
+static int results_of_file(void)
+{
+    uint64_t result = file(sizeof form);
+
+    DEMAND(!FOQTIREL_REFUSED64(result) && FOQTIREL_NUMBER64(result) == 0u && FOQTIREL_LENGTH64(result) == sizeof image);
+    DEMAND(form[2] == 3u && form[sizeof image - 1] == 2u && form[sizeof image] == 0u);
+    result = file(sizeof image - 1);
+    DEMAND(FOQTIREL_REFUSED64(result) && FOQTIREL_NUMBER64(result) == FOQTIREL_OUTPUT_TABLE);
+    DEMAND(FOQTIREL_PLACE64(result) == 0u);
+    result = foqtirel_file(damaged, sizeof damaged, form, 0);
+    DEMAND(FOQTIREL_REFUSED64(result) && FOQTIREL_NUMBER64(result) == FOQTIREL_RULE_KIND);
+    DEMAND(FOQTIREL_PLACE64(result) == 2u);
+    DEMAND(FOQTIREL_LENGTH64((uint64_t)FOQTIREL_MOST_IMAGE) == FOQTIREL_MOST_IMAGE);
     return 0;
 }
 
@@ -135,6 +158,7 @@ static int arguments_once(void)
     DEMAND(!FOQTIREL_REFUSED(query(2, 3)) && asked == 7);
     DEMAND(FOQTIREL_CODE(query(2, 3)) == FOQTIREL_YES && asked == 8);
     DEMAND(FOQTIREL_NODES(query(2, 3)) == 3u && asked == 9);
+    DEMAND(FOQTIREL_LENGTH64(file(sizeof form)) == sizeof image && asked == 10);
     DEMAND(FOQTIREL_MASK(*at++) == 2u && at == entry + 1);
     at = entry;
     DEMAND(FOQTIREL_LITERAL(*at++) == 3u && at == entry + 1);
@@ -159,6 +183,7 @@ int main(void)
     damaged[29] = 7;
     line = layout_of_a_node();
     line = line != 0 ? line : results_of_check();
+    line = line != 0 ? line : results_of_file();
     line = line != 0 ? line : results_of_list();
     line = line != 0 ? line : results_of_trees();
     line = line != 0 ? line : results_of_query();

@@ -9,6 +9,7 @@ use std::thread;
 
 use foqtirel_binding::{self as library, Node};
 use foqtirel_tests::generator::accepted::small_programs;
+use foqtirel_tests::generator::filing::alike;
 use foqtirel_tests::generator::{accepted, all_applicable, many_arguments};
 use foqtirel_tests::header::constants;
 use foqtirel_tests::reference::image::defeasible_rules;
@@ -24,6 +25,8 @@ const ORDER: &str = "FOQTIREL_STACK_ORDER";
 /// Enough for every list the tests make.
 const TABLE: usize = 100_000;
 const BUDGET: u32 = MOST_NODES as u32;
+/// Enough for every filed form.
+const MOST_IMAGE: usize = 1836;
 
 /// Vectors and random programs with at most so many defeasible rules.
 fn images_up_to(most: usize) -> Vec<Vec<u8>> {
@@ -31,7 +34,7 @@ fn images_up_to(most: usize) -> Vec<Vec<u8>> {
     let mut images = vectors::images();
     images.extend(programs.map(|case| case.image));
     images.extend((0..=16).map(|rules| all_applicable(rules).image()));
-    images.push(many_arguments().image());
+    images.extend([many_arguments(), alike()].map(|program| program.image()));
     images.retain(|image| defeasible_rules(image) <= most);
     images
 }
@@ -39,17 +42,25 @@ fn images_up_to(most: usize) -> Vec<Vec<u8>> {
 #[derive(Clone, Copy, PartialEq)]
 enum Call {
     Check,
+    File,
     List,
     Trees,
     Query,
 }
 
 impl Call {
-    const ALL: [Call; 4] = [Call::Check, Call::List, Call::Trees, Call::Query];
+    const ALL: [Call; 5] = [
+        Call::Check,
+        Call::File,
+        Call::List,
+        Call::Trees,
+        Call::Query,
+    ];
 
     fn name(self) -> &'static str {
         match self {
             Call::Check => "check",
+            Call::File => "file",
             Call::List => "list",
             Call::Trees => "trees",
             Call::Query => "query",
@@ -97,18 +108,24 @@ fn order_of(what: &str) -> Option<Order> {
 
 /// The tables that the calls are lent.
 struct Tables {
+    bytes: Vec<u8>,
     arguments: Vec<u32>,
     nodes: Vec<Node>,
 }
 
 /// Returns how many calls were not refused.
 fn carry_out(order: &Order, tables: &mut Tables) -> usize {
-    let Tables { arguments, nodes } = tables;
+    let Tables {
+        bytes,
+        arguments,
+        nodes,
+    } = tables;
     let mut answered = 0;
     for (image, literals) in &order.questions {
         for &literal in literals {
             let refused = match order.call {
                 Call::Check => library::check(image) >> 32 != 0,
+                Call::File => library::file(image, bytes) >> 32 != 0,
                 Call::List => library::list(image, arguments) >> 32 != 0,
                 Call::Trees => library::trees(image, literal, BUDGET, arguments, nodes) >> 32 != 0,
                 Call::Query => library::query(image, literal, BUDGET) >> 16 == 0,
@@ -128,6 +145,7 @@ fn child() {
     let (stack, what) = order.split_once(' ').expect("a size and what to call");
     let order = order_of(what);
     let mut tables = Tables {
+        bytes: vec![0; MOST_IMAGE],
         arguments: vec![0; TABLE],
         nodes: vec![Node::default(); MOST_NODES],
     };
@@ -179,6 +197,7 @@ fn every_call_ends_on_the_stack_of_the_header() {
     let header = constants();
     for (figure, most, what) in [
         ("STACK_CHECK", 16, "check upto=16"),
+        ("STACK_FILE", 16, "file upto=16"),
         ("STACK_LIST_12", 128, "list upto=12"),
         ("STACK_LIST", 2048, "list upto=16"),
         ("STACK_12_RULES", 512, "trees upto=12"),

@@ -14,7 +14,7 @@ pub struct Asked {
 }
 
 pub fn find(loaded: &Loaded, word: &str, page: &str) -> Result<Asked, Fault> {
-    if let (true, Ok(number)) = (loaded.from_image, word.parse::<u32>()) {
+    if let (true, Ok(number)) = (loaded.from_image(), word.parse::<u32>()) {
         let name =
             |number: u32| format!("{}a{}", if number % 2 == 1 { "~" } else { "" }, number / 2);
         return Ok(Asked {
@@ -29,7 +29,7 @@ pub fn find(loaded: &Loaded, word: &str, page: &str) -> Result<Asked, Fault> {
             page,
         )
     })?;
-    if loaded.from_image && !is_image_atom(&literal.atom.name) {
+    if loaded.from_image() && !is_image_atom(&literal.atom.name) {
         return Err(Fault::Question(no_names(loaded.program.atoms.len())));
     }
     let opposite = Literal {
@@ -69,7 +69,7 @@ fn no_names(atoms: usize) -> String {
 /// pen. The names of an image are numbers, and no number is a slip of another.
 pub fn hint(loaded: &Loaded, asked: &Asked) -> String {
     let name = asked.name.trim_start_matches('~');
-    if asked.number.is_some() || loaded.from_image {
+    if asked.number.is_some() || loaded.from_image() {
         return String::new();
     }
     let program = &loaded.program;

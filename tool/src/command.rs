@@ -9,12 +9,13 @@ use crate::fault::{plain, Fault};
 use crate::load::{load, load_image, names_image, same_file, Loaded, STANDARD_INPUT};
 use crate::program::Program;
 use crate::words::{form, sort, usage, Words};
-use crate::{help, svg};
+use crate::{filing, help, same, svg};
 
-/// A command's text, for standard output, and notes on the program, for standard error.
+/// A command's text, for standard output, notes on the program, for standard error, and the exit status.
 pub struct Printed {
     pub text: String,
     pub notes: String,
+    pub status: u8,
 }
 
 type Command = fn(&[String]) -> Result<Printed, Fault>;
@@ -44,18 +45,24 @@ fn page(text: &str) -> Printed {
     Printed {
         text: text.to_string(),
         notes: String::new(),
+        status: 0,
     }
 }
 
 fn printed(loaded: Loaded, text: String) -> Printed {
-    let notes = loaded.notes;
-    Printed { text, notes }
+    Printed {
+        text,
+        notes: loaded.notes,
+        status: 0,
+    }
 }
 
 /// A command's page and what it does.
 fn named(command: &str) -> Result<(&'static str, Command), Fault> {
     Ok(match command {
         "compile" => (help::COMPILE, compile_file),
+        "file" => (help::FILE, file),
+        "same" => (help::SAME, same),
         "show" => (help::SHOW, show),
         "ask" => (help::ASK, ask),
         "explain" => (help::EXPLAIN, explain),
@@ -85,41 +92,54 @@ fn write(path: &str, bytes: &[u8]) -> Result<(), Fault> {
 }
 
 fn compile_file(words: &[String]) -> Result<Printed, Fault> {
-    let words = sort(words, &form(1, &["-o"], &["--names"], help::COMPILE))?;
+    write_image(words, help::COMPILE, |loaded| Ok((loaded, String::new())))
+}
+
+fn file(words: &[String]) -> Result<Printed, Fault> {
+    write_image(words, help::FILE, |loaded| {
+        let filed = filing::filed(&loaded)?;
+        let note = match filed.image == loaded.image && loaded.from_image() {
+            true => format!("note: {} was in filed form already\n", plain(&loaded.name)),
+            false => String::new(),
+        };
+        Ok((filed, note))
+    })
+}
+
+/// Writes the image that is made of a program, or tells the numbers in it, or both.
+fn write_image(
+    words: &[String],
+    page: &'static str,
+    make: fn(Loaded) -> Result<(Loaded, String), Fault>,
+) -> Result<Printed, Fault> {
+    let words = sort(words, &form(1, &["-o"], &["--names"], page))?;
     let (out, names) = (words.value("-o"), words.flag("--names"));
     if out.is_none() && !names {
-        return Err(usage("`-o IMAGE` is missing", help::COMPILE));
+        return Err(usage("`-o IMAGE` is missing", page));
     }
     if let Some(out) = out {
         check_output(&words, out)?;
     }
-    let loaded = load(words.places[0])?;
+    let (made, note) = make(load(words.places[0])?)?;
     let mut told = String::new();
     if let Some(out) = out {
-        write(out, &loaded.image)?;
-        told += &written(out, &loaded);
+        write(out, &made.image)?;
+        told += &(written(out, &made) + &note);
     }
     if names {
-        told += &numbered(&loaded.program);
+        told += &numbered(&made.program);
     }
-    Ok(printed(loaded, told))
+    Ok(printed(made, told))
 }
 
 /// What was written, with a note where this tool would not read it back.
 fn written(out: &str, Loaded { image, program, .. }: &Loaded) -> String {
-    let defeasible = program.rules.iter().filter(|rule| rule.defeasible).count();
     let note = match names_image(out) {
         true => "",
         false => "note: only a file whose name ends in .img is read as an image\n",
     };
-    format!(
-        "{}: {}, {}, {} ({defeasible} defeasible), {}\n{note}",
-        plain(out),
-        count(image.len(), "byte"),
-        count(program.atoms.len(), "atom"),
-        count(program.rules.len(), "rule"),
-        count(program.pairs.len(), "pair")
-    )
+    let bytes = count(image.len(), "byte");
+    format!("{}: {bytes}, {}\n{note}", plain(out), program.size())
 }
 
 /// The literals with their numbers, which are what the C call takes.
@@ -127,6 +147,22 @@ fn numbered(program: &Program) -> String {
     (0..2 * program.atoms.len())
         .map(|literal| format!("{literal} {}\n", program.literal(literal as u8)))
         .collect()
+}
+
+fn same(words: &[String]) -> Result<Printed, Fault> {
+    let words = sort(words, &form(2, &[], &[], help::SAME))?;
+    if words.places == [STANDARD_INPUT; 2] {
+        return Err(usage("standard input can be read once", help::SAME));
+    }
+    let compared = |fault: Fault| Fault::Compared(fault.render());
+    let one = load(words.places[0]).map_err(compared)?;
+    let other = load(words.places[1]).map_err(compared)?;
+    let verdict = same::compare(&one, &other).map_err(compared)?;
+    Ok(Printed {
+        text: verdict.text,
+        notes: one.notes + &other.notes,
+        status: u8::from(!verdict.same),
+    })
 }
 
 fn show(words: &[String]) -> Result<Printed, Fault> {

@@ -59,6 +59,7 @@ pub fn meaning(refusal: &Refusal) -> &'static str {
         21 => "a budget is at most 4,096",
         22 => "the node table is shorter than the budget",
         23 => "the program has more than 4,096 arguments",
+        24 => "the byte table is shorter than the image",
         _ => "a cause that this tool does not know",
     }
 }
@@ -104,6 +105,14 @@ pub struct Verdict {
 
 pub fn check(image: &[u8]) -> Result<(), Refusal> {
     granted(foqtirel_binding::check(image)).map(|_| ())
+}
+
+/// The filed form of an image.
+pub fn file(image: &[u8]) -> Result<Vec<u8>, Refusal> {
+    let mut form = vec![0; image.len()];
+    let length = granted(foqtirel_binding::file(image, &mut form))?;
+    form.truncate(length as usize);
+    Ok(form)
 }
 
 pub fn list(image: &[u8]) -> Result<Vec<Argument>, Refusal> {

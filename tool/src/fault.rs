@@ -146,6 +146,8 @@ pub enum Fault {
     Question(String),
     /// The engine turned an order about a file away; the last part says more where more is known.
     Refused(Refusal, String, String),
+    /// Any of these in a comparison, as rendered: no status of an error is that of a difference.
+    Compared(String),
 }
 
 impl Fault {
@@ -155,7 +157,7 @@ impl Fault {
 
     pub fn status(&self) -> u8 {
         match self {
-            Fault::Usage(_) => 2,
+            Fault::Usage(_) | Fault::Compared(_) => 2,
             Fault::Text(_) | Fault::Question(_) | Fault::Refused(..) => 1,
         }
     }
@@ -163,7 +165,7 @@ impl Fault {
     pub fn render(&self) -> String {
         match self {
             Fault::Usage(words) | Fault::Question(words) => format!("foqtirel: {words}\n"),
-            Fault::Text(words) => words.clone(),
+            Fault::Text(words) | Fault::Compared(words) => words.clone(),
             Fault::Refused(refusal, file, more) => {
                 let Refusal { number, place } = *refusal;
                 format!(

@@ -4,6 +4,8 @@ pub const ALL: &str = "\
 foqtirel: answers from rules that have exceptions, by a proved engine
 
     foqtirel compile FILE -o IMAGE       a program text to an image
+    foqtirel file FILE -o IMAGE          an image that shows no order of typing
+    foqtirel same FILE FILE              whether two programs hold the same
     foqtirel show IMAGE                  an image back to text
     foqtirel ask FILE LITERAL            the answer to one literal
     foqtirel explain FILE LITERAL        the answer with its dialectical trees
@@ -30,7 +32,8 @@ answer as its first word, and a script tells them apart by that.
 Preferences that run in a circle are noted on standard error.
 
 Exit status: 0 with any answer, 1 for an error in the program or a refusal,
-2 for wrong usage or a file that can't be read or written.
+2 for wrong usage or a file that can't be read or written. Of `same`: 0 where
+they hold the same, 1 where they don't, 2 for any error.
 ";
 
 pub const COMPILE: &str = "\
@@ -42,6 +45,32 @@ Atoms are numbered by first occurrence, or as a line `:- atoms a, b, c.` says.
 An image holds no names: --names prints each literal's number, which is what the
 C call takes, with its name, one literal a line.
 IMAGE ends in .img where this tool is to read it.
+";
+
+pub const FILE: &str = "\
+foqtirel file FILE [-o IMAGE] [--names]
+
+Writes the filed image of a program: it is the same, byte for byte, in whatever
+order the program was typed, and it gives the same answers. Rules ascend by kind
+(strict first), head, number of body literals and body; preferences follow them.
+A text's atoms are numbered as its lines `:- atoms a, b, c.` say, and the others
+after those in the order of their names, not by first occurrence as `compile`
+does: --names prints each literal's number with its name, one literal a line.
+The atoms of an image keep their numbers.
+IMAGE ends in .img where this tool is to read it.
+";
+
+pub const SAME: &str = "\
+foqtirel same FILE FILE
+
+Says whether two programs hold the same atoms, rules and preferences, in whatever
+order, and if not, what stands in one of them only. Labels are not compared.
+Atoms of two texts are matched by their names. An image has no names: two images
+are matched by their atoms' numbers, and so are a text and an image, where the
+text's atoms have the numbers of `compile` or those of `file`, whichever makes
+fewer differences. Rules and pairs of an image are counted from 0.
+
+Exit status: 0 where they hold the same, 1 where they don't, 2 for any error.
 ";
 
 pub const SHOW: &str = "\

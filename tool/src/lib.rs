@@ -1,6 +1,6 @@
 //! The command-line tool over the proved engine: programs as text, answers with their trees.
 //!
-//! The answers, arguments, trees and marks are the engine's. What this crate adds is the way in (text to
+//! The answers, arguments, trees, marks and filed images are the engine's. What this crate adds is the way in (text to
 //! image) and the way out (names, words and pictures), which is tested, not proved.
 
 pub mod asked;
@@ -9,6 +9,7 @@ pub mod compile;
 pub mod engine;
 pub mod explain;
 pub mod fault;
+pub mod filing;
 pub mod help;
 pub mod image;
 pub mod lexer;
@@ -17,6 +18,7 @@ pub mod notes;
 pub mod preference;
 pub mod program;
 pub mod reason;
+pub mod same;
 pub mod source;
 pub mod svg;
 pub mod text;

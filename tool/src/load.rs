@@ -22,7 +22,8 @@ const MOST_TEXT: u64 = 1 << 24;
 pub struct Loaded {
     pub image: Vec<u8>,
     pub program: Program,
-    pub from_image: bool,
+    /// The text as it was read; an image has none.
+    pub source: Option<Source>,
     /// The file as messages name it.
     pub name: String,
     /// What is said of it beside any answer, in whole lines.
@@ -30,6 +31,10 @@ pub struct Loaded {
 }
 
 impl Loaded {
+    pub fn from_image(&self) -> bool {
+        self.source.is_none()
+    }
+
     pub fn refused(&self, refusal: Refusal) -> Fault {
         Fault::refused(refusal, &self.name)
     }
@@ -75,7 +80,7 @@ pub fn load(path: &str) -> Result<Loaded, Fault> {
         notes: notes(&program, name, Some(&source)),
         image,
         program,
-        from_image: false,
+        source: Some(source),
         name: name.to_string(),
     })
 }
@@ -129,7 +134,7 @@ pub fn load_image(path: &str) -> Result<Loaded, Fault> {
             notes: notes(&program, name, None),
             image,
             program,
-            from_image: true,
+            source: None,
             name: name.to_string(),
         }),
         Some(refusal) => Err(Fault::Refused(refusal, plain(name), told_clash(&program))),

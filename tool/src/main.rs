@@ -18,13 +18,17 @@ fn main() -> ExitCode {
         return ExitCode::from(2);
     };
     match result {
-        Ok(Printed { text, notes }) => {
+        Ok(Printed {
+            text,
+            notes,
+            status,
+        }) => {
             tell(&notes);
             let mut out = std::io::stdout();
             let written = out.write_all(text.as_bytes()).and_then(|()| out.flush());
             // An answer that nobody could read is no success.
             ExitCode::from(match written {
-                Ok(()) => 0,
+                Ok(()) => status,
                 Err(error) => tell_unwritten(&error),
             })
         }

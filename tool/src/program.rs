@@ -1,5 +1,7 @@
 //! A program with names: what a text compiles to, and what an image is read back as.
 
+use crate::explain::count;
+
 #[derive(Clone, Debug, PartialEq, Eq)]
 pub struct Rule {
     pub label: Option<String>,
@@ -66,6 +68,50 @@ impl Program {
             .iter()
             .map(|&number| self.rule_name(number))
             .collect()
+    }
+
+    /// How many atoms, rules and pairs there are.
+    pub fn size(&self) -> String {
+        let defeasible = self.rules.iter().filter(|rule| rule.defeasible).count();
+        format!(
+            "{}, {} ({defeasible} defeasible), {}",
+            count(self.atoms.len(), "atom"),
+            count(self.rules.len(), "rule"),
+            count(self.pairs.len(), "pair")
+        )
+    }
+
+    /// The same program where each atom has another number, the one at its place. Numbers between them have no name.
+    pub fn renumbered(&self, numbers: &[u8]) -> Program {
+        let literal = |literal: u8| 2 * numbers[usize::from(literal / 2)] + literal % 2;
+        let end = numbers
+            .iter()
+            .max()
+            .map_or(0, |&last| usize::from(last) + 1);
+        let mut program = Program {
+            atoms: vec![String::new(); end],
+            ..self.clone()
+        };
+        for (name, &number) in self.atoms.iter().zip(numbers) {
+            program.atoms[usize::from(number)].clone_from(name);
+        }
+        for rule in &mut program.rules {
+            rule.head = literal(rule.head);
+            rule.body = rule.body.iter().copied().map(literal).collect();
+            rule.body.sort_unstable();
+        }
+        program
+    }
+
+    /// The same program with the first atoms as they are and all others in the order of their names.
+    pub fn numbered_by_name(&self, first: usize) -> Program {
+        let mut order: Vec<usize> = (0..self.atoms.len()).collect();
+        order[first..].sort_by_key(|&atom| &self.atoms[atom]);
+        let mut numbers = vec![0; order.len()];
+        for (number, &atom) in order.iter().enumerate() {
+            numbers[atom] = number as u8;
+        }
+        self.renumbered(&numbers)
     }
 
     /// The numbers of the defeasible rules in a mask: bit b is the b-th defeasible rule of the table.

@@ -31,6 +31,31 @@ pub struct Rule {
     pub body: Vec<Literal>,
 }
 
+impl Rule {
+    /// Where it begins.
+    pub fn at(&self) -> Span {
+        match &self.label {
+            Some(label) => label.at,
+            None => self.head.at,
+        }
+    }
+
+    /// The rule on one line, its body in the order in which it was typed.
+    pub fn text(&self) -> String {
+        let label = match &self.label {
+            Some(label) => format!("{}: ", label.name),
+            None => String::new(),
+        };
+        let body: Vec<String> = self.body.iter().map(Literal::text).collect();
+        let body = match (self.defeasible, body.is_empty()) {
+            (_, true) => String::new(),
+            (true, _) => format!(" -< {}", body.join(", ")),
+            (false, _) => format!(" <- {}", body.join(", ")),
+        };
+        format!("{label}{}{body}.", self.head.text())
+    }
+}
+
 #[derive(Clone, Debug)]
 pub struct Preference {
     pub first: Named,

@@ -92,8 +92,9 @@ fn halves(word: &str) -> (&str, Option<&str>) {
 /// A command that takes a literal may have been given a negated one in another language's way.
 fn no_place(word: &str, form: &Form) -> String {
     let told = format!("`{word}` has no place here");
+    let literal = form.page.contains(" LITERAL");
     match word.strip_prefix('-') {
-        Some(name) if form.places == 2 && name.starts_with(char::is_alphabetic) => {
+        Some(name) if literal && name.starts_with(char::is_alphabetic) => {
             format!("{told}; if it is a literal, negation is written '~{name}'")
         }
         _ => told,

@@ -35,8 +35,13 @@ fn advise() {
 
 /// Lines that start with `$ foqtirel ` are commands; what follows is what they print.
 #[test]
-fn explain() {
-    for name in ["shop.explain", "birds.explain", "bulletins.explain"] {
+fn commands() {
+    for name in [
+        "shop.explain",
+        "birds.explain",
+        "bulletins.explain",
+        "branch.same",
+    ] {
         let stored = fs::read_to_string(common::examples().join(name)).unwrap();
         let mut told = String::new();
         for line in stored
@@ -53,6 +58,24 @@ fn explain() {
         }
         assert_eq!(told, stored, "{name}");
     }
+}
+
+/// Two branches that typed the same bulletins file the same bytes, though they compile others.
+#[test]
+fn branches_file_the_same() {
+    let directory = common::scratch("branches");
+    let written = |command: &str, name: &str| {
+        let out = directory.join(format!("{command}-{name}.img"));
+        let text = format!("{name}.delp");
+        let ran = common::run(&[command, &text, "-o", out.to_str().unwrap()]);
+        assert_eq!((ran.status, ran.err.as_str()), (0, ""));
+        fs::read(out).unwrap()
+    };
+    assert_eq!(written("file", "bulletins"), written("file", "branch"));
+    assert_ne!(
+        written("compile", "bulletins"),
+        written("compile", "branch")
+    );
 }
 
 /// Each fitting says what to ask and what the answer is.

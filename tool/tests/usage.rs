@@ -4,7 +4,9 @@ mod common;
 
 use common::{run, run_with_input};
 
-const COMMANDS: [&str; 6] = ["compile", "show", "ask", "explain", "tree", "advise"];
+const COMMANDS: [&str; 8] = [
+    "compile", "file", "same", "show", "ask", "explain", "tree", "advise",
+];
 
 #[test]
 fn help() {
@@ -101,6 +103,28 @@ fn wrong_usage() {
         (&["ask", "shop.delp", "steel-ring"], "write `steel_ring`"),
         (&["ask", "shop.delp", "true"], "`true` is reserved"),
         (&["compile", "shop.delp", "-o", "-"], "name a file"),
+        (&["file", "shop.delp"], "`-o IMAGE` is missing"),
+        (&["file", "shop.delp", "-o"], "`-o` needs a value"),
+        (&["file", "shop.delp", "-o", "-"], "name a file"),
+        (
+            &["file", "shop.delp", "-o", "no/such/place.img"],
+            "cannot write no/such/place.img",
+        ),
+        (
+            &["file", "none.delp", "-o", "x.img"],
+            "cannot read none.delp",
+        ),
+        (&["same", "shop.delp"], "too few words"),
+        (
+            &["same", "shop.delp", "birds.delp", "-x"],
+            "`-x` has no place here\n",
+        ),
+        (
+            &["same", "shop.delp", "birds.delp", "bulletins.delp"],
+            "`bulletins.delp` has no place here",
+        ),
+        (&["same", "-", "-"], "standard input can be read once"),
+        (&["same", "shop.delp", "none.delp"], "cannot read none.delp"),
     ];
     let mut wrong = wrong.to_vec();
     let long = common::scratch("usage").join("long.delp");
@@ -204,8 +228,10 @@ fn nothing_is_written_over_the_program() {
     ] {
         for ran in [
             run(&["compile", name, "-o", out]),
+            run(&["file", name, "-o", out]),
             run(&["tree", name, "pod_fits", "--svg", out]),
             run_with_input(&["compile", "-", "-o", out], &program),
+            run_with_input(&["file", "-", "-o", out], &program),
         ] {
             let told =
                 format!("foqtirel: {out} is the program itself: name another file to write\n");

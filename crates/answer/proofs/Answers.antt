@@ -6,6 +6,7 @@ use Prim.Native.Nat.{ℕ, _≤_, _<_}
 use native.Mathlib.Omega.{arith}
 use lib.ListN.{length}
 use lib.Dec.{T, not-T, ltb, ltb→lt, lt→ltb, nltb→le}
+use Rattle.lists.specs.Lists.{indexIn}
 use Rattle.lists.specs.Decides.{Decides}
 use Rattle.lists.proofs.Decides.{decides-not}
 use Rattle.program.specs.Program.{Program}
@@ -14,7 +15,7 @@ use Rattle.defeat.specs.Tests.{Tests}
 use Rattle.defeat.specs.OfProgram.{testsOf}
 use Rattle.tree.proofs.Entries.{entries-length}
 use Rattle.answer.specs.Warrant.{WarrantedBy}
-use Rattle.answer.specs.Answer.{Occurs, occurs, indexIn, forest, nodeCount, forestEntries, warranted, answerOf}
+use Rattle.answer.specs.Answer.{Occurs, occurs, forest, nodeCount, forestEntries, warranted, answerOf}
 use Rattle.answer.specs.Answer.{answerBy, codeOf, nodesOf}
 use Rattle.answer.proofs.Warrant.{occurs-renders, occurs-complement, warranted-occurs, warranted-apart}
 use Rattle.answer.proofs.Warrant.{complement-excludes, warranted-renders}

@@ -10,7 +10,7 @@ use Rattle.derivation.specs.Derivation.{complement}
 use Rattle.defeat.specs.Tests.{Tests}
 use Rattle.preference.specs.Preference.{preferredTest}
 use Rattle.defeat.specs.OfProgram.{testsOf}
-pub use Rattle.tree.specs.OfLiteral.{indexIn, nodeCount, forestEntries}
+pub use Rattle.tree.specs.OfLiteral.{nodeCount, forestEntries}
 unfoldable pub use Rattle.tree.specs.OfLiteral.{argumentsFor, forest, warranted}
 use Rattle.answer.specs.declared.Answer.{Answer}
 use Rattle.answer.specs.declared.Answer.the-variants.{Yes, No, Undecided, Unknown, Unfinished, Refused}

@@ -1,5 +1,5 @@
 -- The laws of the calls' refusals and of the list call.
 pub mod Refusals
 mod Listings
-mod Verdicts
+pub mod Verdicts
 pub mod Fittings

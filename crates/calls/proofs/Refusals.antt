@@ -336,7 +336,7 @@ module _ (s : List ℕ) where
 
   -- ---- the list call and those that answer
 
-  image-span : Spans (ImageCause s) 0 14
+  pub image-span : Spans (ImageCause s) 0 14
   image-span n p c = go (of-image n p c)
     where
       go : Either Read Clashing n p → (0 < n) × (n ≤ 14)
@@ -438,7 +438,7 @@ module _ (s : List ℕ) where
 
   -- ---- and no other verdict is judged so
 
-  image-sited : Sited (ImageCause s)
+  pub image-sited : Sited (ImageCause s)
   image-sited n p (causes.image-size t) = inr refl
   image-sited n p (causes.counts t) = inr refl
   image-sited n p (causes.directory t) = inr refl

@@ -1,15 +1,19 @@
 -- The first cause that applies, of a whole from its parts: what is looked for one after the other, and what each finds.
 use mathlib.Core.Path.{_≡_, refl, sym, ap₂, subst, subst₂, _∙_}
 use mathlib.Core.Bool.{Bool, true, false}
+use mathlib.Core.List.{List}
 use mathlib.Core.Logic.{_⊎_, inl, inr, ⊎-elim}
 use Prim.Native.Nat.{ℕ, zero, suc, _+_, _≤_, _<_}
 use native.Mathlib.Nat.{eq-or-lt-of-le}
 use native.Mathlib.Omega.{arith}
 use lib.Dec.{T, ltb, leb}
+use lib.ListN.{length}
 use borrow.Author.Tests.{ltb-true, ltb-false, leb-true, leb-false}
 use Rattle.layout.specs.declared.Verdict.{Verdict}
 use Rattle.layout.specs.declared.Verdict.the-variants.{Accepted, Refused}
 use Rattle.layout.specs.Causes.{refuse, andThen}
+use Rattle.nodes.proofs.Rows.{front-length}
+use Rattle.calls.specs.Calls.{front, unlessRefused}
 use Rattle.calls.specs.Causes.{OfRule, OfPair, InTurn, Earlier, by-number, by-place, at-place, Judged, accepted, refused}
 
 -- causes, by number and place
@@ -56,6 +60,12 @@ pub judged-same : {A B : Causes} {v : Verdict} → ((n p : ℕ) → A n p → B 
     → Judged A v → Judged B v
 judged-same f g (accepted h) = accepted (λ n p b. h n p (g n p b))
 judged-same f g (refused {number} {place} c h) = refused (f number place c) (λ m q e b. h m q e (g m q b))
+
+-- a lent table keeps its length
+pub unless-length : {A : Type 0} (v : Verdict) (l table : List A) → (v ≡ Accepted → length l ≤ length table)
+    → length (unlessRefused v (front l table) table) ≡ length table
+unless-length Accepted l table f = front-length l table (f refl)
+unless-length (Refused n place) l table f = refl
 
 -- ---- causes of different turns: the numbers decide
 

@@ -17,6 +17,8 @@ use Rattle.answer.specs.declared.Answer.{Answer}
 use Rattle.answer.specs.declared.Answer.the-variants.{Yes, No, Undecided, Unknown, Unfinished, Refused}
 use Rattle.calls.specs.declared.Listed.{Listed}
 use Rattle.calls.specs.declared.Listed.the-variants as lists
+use Rattle.calls.specs.declared.Written.{Written}
+use Rattle.calls.specs.declared.Written.the-variants as written
 use Rattle.nodes.specs.declared.Node.{Node}
 pub use Rattle.nodes.specs.Nodes.{nodeOf}
 pub use Rattle.answer.specs.Tables.{front, nodesAfter, zeroed, columnAfter}
@@ -119,6 +121,22 @@ packed a = answeredCause a + codeAndNodes a
 unfoldable pub hostCall : List ℕ → (literal budget : ℕ) → ℕ
 hostCall s h budget = packed (queried s h budget 4096 4096)
 
+-- ---- calls that fill a byte table
+
+-- "its length is returned where nothing else is"
+abbrev pub writtenBy : Verdict → ℕ → Written
+writtenBy verdicts.Accepted n = written.Length n
+writtenBy (verdicts.Refused number place) n = written.Refused number place
+
+-- the number of the cause that it names, none of one that writes; and what comes with it: the length, or the cause's place
+abbrev pub writtenCause : Written → ℕ
+writtenCause (written.Length n) = 0
+writtenCause (written.Refused number place) = number
+
+abbrev pub writtenValue : Written → ℕ
+writtenValue (written.Length n) = n
+writtenValue (written.Refused number place) = place
+
 -- ---- the calls of the C library: each result is one number
 
 -- a cause, 0 for none, with what comes with it: number * 2^32 + value
@@ -138,6 +156,10 @@ listedNumber l = refusalNumber (listedCause l) (listedValue l)
 
 abbrev pub listCall : List ℕ → (room : ℕ) → ℕ
 listCall s room = listedNumber (listed s room)
+
+-- the length, or a cause with its place
+abbrev pub writtenNumber : Written → ℕ
+writtenNumber w = refusalNumber (writtenCause w) (writtenValue w)
 
 -- code * 2^16 + nodes, or a cause with its place
 abbrev pub answeredNumber : Answer → ℕ

@@ -20,6 +20,17 @@ impl Listed {
     pub const ARGUMENT_TABLE: u32 = 23;
 }
 
+// What a call that fills a byte table returns: how many bytes it wrote, or the number and place of the first cause that applies.
+pub enum Written {
+    Length(u32),
+    Refused { number: u32, place: u32 },
+}
+
+// The causes that are such a call's own, beside those of the image.
+impl Written {
+    pub const OUTPUT_TABLE: u32 = 24;
+}
+
 // The first of causes 1 to 14 that applies to an image.
 pub fn check(image: &[u8]) -> Verdict
     ensures { λ r. ⌜ r ≡ checkImage (now (image .entry)) ⌝ }

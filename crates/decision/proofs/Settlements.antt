@@ -8,7 +8,7 @@ use lib.Dec.{leb}
 use lib.ListN.{length, take, drop, length-append, length-drop}
 use lib.Seq.{take-append-seam}
 use lib.Pow.{pow-mono}
-use Rattle.literals.specs.Sets.{choose}
+use Rattle.lists.specs.Lists.{choose}
 use Rattle.program.specs.Program.{Program, defeasibles}
 use Rattle.program.specs.inside.Table.{bitCount}
 use Rattle.listing.specs.declared.Listed.{Listed}

@@ -13,7 +13,8 @@ use lib.ListN.{length, getD, take, drop}
 use lib.Seq.{drop-cons, length-take-le, getD-take}
 use Rattle.lists.specs.Lists.{any}
 use Rattle.lists.proofs.Lists.{T-true, any-intro, any-found}
-use Rattle.lists.proofs.Orders.{member-at, ascending-rest}
+use Rattle.lists.proofs.Orders.{ascending-rest}
+use Rattle.lists.proofs.Places.{there}
 use Rattle.literals.specs.Sets.{has, within, meets}
 use Rattle.literals.proofs.Tests.{true-T, same-test, not-true-false, and-intro, and-left, and-right}
 use Rattle.literals.proofs.Members.{has-cases, has-empty}
@@ -209,7 +210,7 @@ module _ (rules : List Rule) (arguments : List ℕ) (count i : ℕ) (listed : ta
   pub entry-listed : List·Memᴰ (getD arguments i 0) (argumentList rules)
   entry-listed =
       subst (λ (z : ℕ). List·Memᴰ z (argumentList rules)) entry-is
-      (member-at (argumentList rules) i (omega (arith, as-long)))
+      (there 0 (argumentList rules) i (omega (arith, as-long)))
 
   pub entry-first : drop i (argumentList rules) ≡ getD arguments i 0 ∷ drop (i + 1) (argumentList rules)
   entry-first =

@@ -9,12 +9,13 @@ use native.Mathlib.Decide.{ℕ-discrete, decLt}
 use native.Mathlib.Omega.{arith}
 use lib.ListN.{length, take}
 use Rattle.lists.specs.Lists.{keep}
+use Rattle.lists.proofs.Places.{there}
 use Rattle.lists.proofs.Lists.{T-true, keep-head, keep-tail, keep-cases}
 use Rattle.literals.specs.Sets.{has}
 use Rattle.literals.proofs.Tests.{true-T, or-right}
 use Rattle.literals.proofs.Members.{has-empty}
 use Rattle.program.specs.Program.{Kind, strict, defeasible, Rule, isDefeasible, nextBit, defeasiblesFrom, defeasibles, bitOf}
-use Rattle.program.specs.Program.{ruleAt, chosenFrom, Π-with, Π-mask, Π}
+use Rattle.program.specs.Program.{fact, ruleAt, chosenFrom, Π-with, Π-mask, Π}
 
 -- the bits ascend, and stay below the number of defeasible rules
 next-le : (k : Kind) (n : ℕ) → n ≤ nextBit k n
@@ -133,11 +134,6 @@ chosen-ext f g n (r ∷ l) e = ap₂ (λ (t : Bool) (k : List Rule). keep t r k)
         ap (λ (t : Bool). not (isDefeasible (r .kind)) || t)
         (e n (omega (arith, defeasibles-le (nextBit (r .kind) n) l)))
 
-rule-in : (l : List Rule) (i : ℕ) → i < length l → List·Memᴰ (ruleAt l i) l
-rule-in [] i h = absurd (omega arith)
-rule-in (q ∷ l) zero h = List·Memᴰ·head refl
-rule-in (q ∷ l) (suc i) h = List·Memᴰ·tail (rule-in l i (omega arith))
-
 module _ (rules : List Rule) where
   -- the choice matters only at the bits of the defeasible rules
   pub Π-with-ext-below : (f g : ℕ → Bool) → ((b : ℕ) → b < defeasibles rules → f b ≡ g b) → Π-with f rules ≡ Π-with g rules
@@ -150,11 +146,11 @@ module _ (rules : List Rule) where
   Π-mask-empty = Π-with-ext (has 0) (λ _. false) has-empty
 
   pub Π-with-rules : (f : ℕ → Bool) (r : Rule) → List·Memᴰ r (Π-with f rules) → List·Memᴰ r rules
-  Π-with-rules f r i = ⊎-elim (λ s. s .0) (λ c. Memᴰ·cast (sym (c .is)) (rule-in rules (c .at) (c .inside))) (chosen-cases f 0 rules r i)
+  Π-with-rules f r i = ⊎-elim (λ s. s .0) (λ c. Memᴰ·cast (sym (c .is)) (there (fact 0) rules (c .at) (c .inside))) (chosen-cases f 0 rules r i)
 
   -- Π has the strict rules, and no others
   pub Π-has : (i : ℕ) → i < length rules → isDefeasible (ruleAt rules i .kind) ≡ false → List·Memᴰ (ruleAt rules i) (Π rules)
-  Π-has i h d = chosen-strict (λ _. false) 0 rules (ruleAt rules i) (rule-in rules i h) d
+  Π-has i h d = chosen-strict (λ _. false) 0 rules (ruleAt rules i) (there (fact 0) rules i h) d
 
   pub Π-strict : (r : Rule) → List·Memᴰ r (Π rules) → isDefeasible (r .kind) ≡ false
   Π-strict r i = ⊎-elim (λ s. s .1) (λ c. absurd (false≢true (c .chosen))) (chosen-cases (λ _. false) 0 rules r i)

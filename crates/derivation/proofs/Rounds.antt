@@ -8,7 +8,8 @@ use native.Mathlib.Decide.{ℕ-discrete}
 use native.Mathlib.Omega.{arith}
 use lib.ListN.{length}
 use borrow.Author.Tests.{eq-eqb, ne-eqb}
-use Rattle.literals.specs.Sets.{has, choose, insert, hasAll, within}
+use Rattle.lists.specs.Lists.{choose}
+use Rattle.literals.specs.Sets.{has, insert, hasAll, within}
 use Rattle.literals.proofs.Members.{has-insert-same, insert-cases}
 use Rattle.literals.proofs.Lists.{hasAll-each, each-hasAll}
 use Rattle.literals.proofs.Within.{within-each, each-within, within-refl, within-trans, within-insert, within-antisym, within-lacks}

@@ -9,8 +9,8 @@ use lib.ListN.{length, take, drop, drop-of-length-le}
 use lib.Seq.{drop-cons}
 use lib.Bits.{bitAnd}
 use borrow.Author.Tests.{eq-eqb, ne-eqb}
-use Rattle.lists.specs.Lists.{keep}
-use Rattle.literals.specs.Sets.{has, choose, insert, hasAll, within, clash}
+use Rattle.lists.specs.Lists.{keep, choose}
+use Rattle.literals.specs.Sets.{has, insert, hasAll, within, clash}
 use Rattle.literals.proofs.Lists.{hasAll-within}
 use Rattle.program.specs.Program.{Rule, fact, isDefeasible, nextBit, defeasiblesFrom, bitOf, ruleAt, chosenFrom, Π-mask}
 use Rattle.program.specs.inside.Table.{headAt, bodyAt, needAt, Row}

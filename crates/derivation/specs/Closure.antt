@@ -5,7 +5,8 @@ use mathlib.Core.List.{List, [], _∷_}
 use Prim.Native.Nat.{ℕ, zero, suc}
 use lib.Dec.{eqb}
 use lib.ListN.{length}
-use Rattle.literals.specs.Sets.{has, choose, insert, hasAll, clash}
+use Rattle.lists.specs.Lists.{choose}
+use Rattle.literals.specs.Sets.{has, insert, hasAll, clash}
 use Rattle.program.specs.Program.{Rule, Π}
 
 -- s, with the rule's head if s has its whole body

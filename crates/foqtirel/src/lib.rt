@@ -2,6 +2,7 @@
 ghost use mathlib.Core.Path.{_≡_};
 ghost use lib.ListN.{length};
 ghost use Rattle.calls.specs.Calls.{checkCall, listCall, listTable, treesCall, queryArguments, queryNodes, hostCall};
+ghost use Rattle.filing.specs.Calls.{fileCall, fileTable};
 use nodes::Node;
 
 // 0 where the image is accepted, else number * 2^32 + place.
@@ -18,6 +19,14 @@ pub extern "C" fn foqtirel_list(image: &[u8], arguments: &mut [u32]) -> u64
     ensures { λ r. ⌜ (r ≡ listCall (now (image .entry)) (length (now (arguments .entry)))) × (now (arguments .exit) ≡ listTable (now (image .entry)) (now (arguments .entry))) ⌝ }
 {
     packing::listed(warrant::list(image, arguments))
+}
+
+// The length of the image's filed form, or number * 2^32 + place of the cause; and the lent table.
+#[no_mangle]
+pub extern "C" fn foqtirel_file(image: &[u8], out: &mut [u8]) -> u64
+    ensures { λ r. ⌜ (r ≡ fileCall (now (image .entry)) (length (now (out .entry)))) × (now (out .exit) ≡ fileTable (now (image .entry)) (now (out .entry))) ⌝ }
+{
+    packing::written(filer::file(image, out))
 }
 
 // A literal's answer as one number, or number * 2^32 + place of the cause; and the two lent tables.

@@ -3,22 +3,22 @@ use mathlib.Core.Path.{_≡_, refl, sym, ap, subst, _∙_}
 use mathlib.Core.Bool.{Bool, true, false, _&&_}
 use mathlib.Core.List.{List, [], _∷_, List·Memᴰ, List·Memᴰ·cases-cons, List·Memᴰ·not-nil}
 use mathlib.Core.Logic.{_⊎_, inl, inr}
-use Prim.Native.Nat.{ℕ, zero, suc, _-_, _*_, _<_, _≤_}
+use Prim.Native.Nat.{ℕ, zero, suc, _+_, _-_, _*_, _<_, _≤_}
 use native.Mathlib.Numerals.{add-one}
 use native.Mathlib.Nat.{le-refl, sub-zero}
 use native.Mathlib.Omega.{arith}
 use lib.ListN.{length, take, drop}
 use lib.Seq.{take-length}
 use lib.Dec.{ltb, leb, eqb}
-use borrow.Author.Tests.{ltb-true, ltb-false, leb-false, eqb-false, not-false}
+use borrow.Author.Tests.{ltb-true, ltb-false, leb-false, eqb-true, eqb-false, not-false}
 use Rattle.literals.proofs.Tests.{and-left, and-right}
 use Rattle.program.specs.Program.{Kind, Rule, nextBit, defeasibles, defeasiblesFrom, bitOf}
 use Rattle.program.specs.Limits.{DefeasibleAt, PairOf, Limits}
 use Rattle.program.proofs.Fillings.{bit-of-next}
 use Rattle.layout.specs.declared.Verdict.{Verdict}
 use Rattle.layout.specs.declared.Verdict.the-variants.{Accepted, Refused}
-use Rattle.layout.specs.Layout.{atomsOf, rulesOf, pairsOf, partOf, kindByte, headByte, bodyBytes, firstOf, secondOf}
-use Rattle.layout.specs.Causes.{refuse, andThen, allBelow, ascending, badSize, badKind, badLiteral, badBody, badEmpty, badSeventeenth, badLength, badCounts, badDirectory, badPairs, badPair, notDefeasible, partVerdict, ruleVerdict, countKind, rulesVerdict, pairVerdict, pairsVerdict, verdict}
+use Rattle.layout.specs.Layout.{numberAt, sizeOf, atomsOf, rulesOf, pairsOf, partOf, kindByte, headByte, bodyBytes, firstOf, secondOf}
+use Rattle.layout.specs.Causes.{refuse, andThen, allBelow, ascending, badSize, badKind, badLiteral, badBody, badEmpty, badSeventeenth, badLength, badCounts, badDirectory, badPairs, badPair, notDefeasible, partVerdict, ruleVerdict, countKind, rulesVerdict, pairVerdict, pairsVerdict, partsFollow, verdict}
 use Rattle.layout.specs.Reading.{ruleIn, rulesIn, programIn}
 use Rattle.layout.specs.inside.Steps.{PartAt}
 use Rattle.part.proofs.Bytes.{below-here, below-after}
@@ -32,7 +32,7 @@ pub then-left : (v w : Verdict) → andThen v w ≡ Accepted → v ≡ Accepted
 then-left Accepted w e = refl
 then-left (Refused n p) w e = e
 
-then-right : (v w : Verdict) → andThen v w ≡ Accepted → w ≡ Accepted
+pub then-right : (v w : Verdict) → andThen v w ≡ Accepted → w ≡ Accepted
 then-right Accepted w e = e
 then-right (Refused n p) w e = absurd (let z : _≡_ {A = ℕ} 0 1 = cc in omega arith)
 
@@ -72,8 +72,12 @@ part-sound part atoms before place e =
 pub record Sound (s : List ℕ) : Type 0 where
   pub few-atoms : atomsOf s ≤ 64
   pub few-rules : rulesOf s ≤ 96
+  pub few-pairs : pairsOf s ≤ 240
+  pub zeros : numberAt s 6 ≡ 0
+  pub follow : partsFollow s (12 + 4 * rulesOf s) 0 (rulesOf s + 1) ≡ true
   pub parts : (i : ℕ) → i ≤ rulesOf s → PartAt s i
   pub rules-accepted : rulesVerdict s 0 0 (rulesOf s) ≡ Accepted
+  pub pairs-size : sizeOf s (rulesOf s) ≡ 2 * pairsOf s
   pub pairs-accepted : pairsVerdict s 0 (pairsOf s) ≡ Accepted
 
 pub accepted-sound : (s : List ℕ) → verdict s ≡ Accepted → Sound s
@@ -82,6 +86,7 @@ accepted-sound s e =
     let e2 = then-right (refuse (badLength s) 1 0) _ e in
     let two = refuse-not (badCounts s) 2 0 (then-left (refuse (badCounts s) 2 0) _ e2) in
     let more = neither-right (ltb 64 (atomsOf s)) _ two in
+    let last = neither-right (ltb 96 (rulesOf s)) _ more in
     let e3 = then-right (refuse (badCounts s) 2 0) _ e2 in
     let three = refuse-not (badDirectory s) 3 0 (then-left (refuse (badDirectory s) 3 0) _ e3) in
     let e4 = then-right (refuse (badDirectory s) 3 0) _ e3 in
@@ -89,8 +94,12 @@ accepted-sound s e =
     record {
       few-atoms = ltb-false 64 (atomsOf s) (neither-left (ltb 64 (atomsOf s)) _ two);
       few-rules = ltb-false 96 (rulesOf s) (neither-left (ltb 96 (rulesOf s)) _ more);
+      few-pairs = ltb-false 240 (pairsOf s) (neither-left (ltb 240 (pairsOf s)) _ last);
+      zeros = eqb-true (numberAt s 6) 0 (not-false _ (neither-right (ltb 240 (pairsOf s)) _ last));
+      follow = not-false _ (neither-right (ltb (length s) (12 + 4 * rulesOf s)) _ three);
       parts = directory-part s three;
       rules-accepted = then-left (rulesVerdict s 0 0 (rulesOf s)) _ e4;
+      pairs-size = eqb-true (sizeOf s (rulesOf s)) (2 * pairsOf s) (not-false _ (refuse-not (badPairs s) 11 0 (then-left (refuse (badPairs s) 11 0) _ e11)));
       pairs-accepted = then-right (refuse (badPairs s) 11 0) _ e11;
     }
 

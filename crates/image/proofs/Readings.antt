@@ -10,7 +10,8 @@ use native.Mathlib.Omega.{arith}
 use lib.ListN.{length}
 use lib.Dec.{eqb}
 use borrow.Author.Tests.{eq-eqb, ne-eqb}
-use Rattle.literals.specs.Sets.{choose, insert}
+use Rattle.lists.specs.Lists.{choose}
+use Rattle.literals.specs.Sets.{insert}
 use Rattle.program.specs.Program.{Rule, ruleAt, bitOf}
 use Rattle.program.specs.inside.Filling.{listedFrom}
 use Rattle.layout.specs.Layout.{partOf, firstOf, secondOf}

@@ -11,7 +11,8 @@ use lib.ListN.{length, getD, set, length-set}
 use lib.Seq.{getD-set-same, getD-set-other}
 use lib.Dec.{eqb}
 use borrow.Author.Tests.{eqb-true, eqb-false, eq-eqb, ne-eqb}
-use Rattle.literals.specs.Sets.{choose, insertAll}
+use Rattle.lists.specs.Lists.{choose}
+use Rattle.literals.specs.Sets.{insertAll}
 use Rattle.literals.proofs.Tests.{or-left, or-right}
 use Rattle.program.specs.Program.{Kind, strict, defeasible, Rule, isDefeasible}
 use Rattle.program.specs.inside.Table.{headAt, bodyAt, needAt, needOf, Row}

@@ -11,7 +11,7 @@ use lib.ListN.{length, getD, set, take, length-set}
 use lib.Seq.{take-length}
 use borrow.Author.Tests.{not-true, not-false}
 use Rattle.literals.specs.declared.LiteralSet.{LiteralSet}
-use Rattle.literals.specs.Sets.{choose}
+use Rattle.lists.specs.Lists.{choose}
 use Rattle.literals.specs.inside.Words.{setOf}
 use Rattle.literals.proofs.Tests.{not-true-false}
 use Rattle.program.specs.Program.{strict, defeasible, Rule, nextBit, defeasiblesFrom, defeasibles, bitOf, ruleAt}

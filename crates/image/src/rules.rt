@@ -4,7 +4,7 @@ ghost use mathlib.Core.Path.{_≡_};
 ghost use mathlib.Core.Bool.{true};
 ghost use Prim.Native.Nat.{ℕ, _+_, _≤_, _<_};
 ghost use lib.ListN.{length, getD};
-ghost use Rattle.literals.specs.Sets.{choose};
+ghost use Rattle.lists.specs.Lists.{choose};
 ghost use Rattle.literals.specs.inside.Words.{setOf};
 ghost use Rattle.program.specs.Program.{Rule};
 ghost use Rattle.program.specs.inside.Table.{headAt};

@@ -18,7 +18,7 @@ use Rattle.layout.specs.Layout.{numberAt, atomsOf, rulesOf, pairsOf, off
 use Rattle.layout.specs.Causes.{refuse, andThen, badLength, badCounts, partsFollow, badDirectory}
 use Rattle.layout.specs.declared.cursor.Cursor.{Cursor}
 use Rattle.layout.specs.declared.cursor.Follow.the-variants as follow
-use Rattle.literals.specs.Sets.{choose}
+use Rattle.lists.specs.Lists.{choose}
 use Rattle.layout.specs.inside.Steps.{cursorAt, headerWith, headerBy, headerOf, followFrom, Along, PartAt, Located}
 use Rattle.layout.proofs.Cursors.{Follow-is, follow-is, broken-is}
 

@@ -7,6 +7,9 @@ use lib.ListN.{length, take, drop, length-take, length-drop}
 use Rattle.layout.specs.Layout.{sizeOf, partOf}
 use Rattle.layout.specs.inside.Steps.{PartAt, Located}
 
+pub part-length : (s : List ℕ) (i : ℕ) → PartAt s i → length (partOf s i) ≡ sizeOf s i
+part-length s i p = let f = p .inside in simp (length-take, length-drop) (omega arith)
+
 module _ (s : List ℕ) (i from to : ℕ) (l : Located s i from to) where
   pub located-order : from ≤ to
   located-order = let f = l .from-is in let t = l .to-is in omega arith

@@ -5,7 +5,7 @@ use mathlib.Core.List.{List, [], _∷_}
 use Prim.Native.Nat.{ℕ, zero, suc, _+_, _*_}
 use lib.ListN.{length, drop}
 use lib.Dec.{ltb, leb, eqb}
-use Rattle.literals.specs.Sets.{choose}
+use Rattle.lists.specs.Lists.{choose}
 use Rattle.layout.specs.declared.Verdict.{Verdict}
 use Rattle.layout.specs.declared.Verdict.the-variants.{Accepted, Refused}
 use Rattle.layout.specs.Layout.{byteAt, numberAt, atomsOf, rulesOf, pairsOf, offsetOf, sizeOf, partOf, kindByte, bodyBytes, firstOf, secondOf}

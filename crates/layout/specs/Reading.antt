@@ -3,7 +3,7 @@ use mathlib.Core.Bool.{Bool, true, false}
 use mathlib.Core.List.{List, [], _∷_}
 use Prim.Native.Nat.{ℕ, zero, suc}
 use lib.Dec.{eqb}
-use Rattle.literals.specs.Sets.{choose}
+use Rattle.lists.specs.Lists.{choose}
 use Rattle.program.specs.Program.{Kind, strict, defeasible, Rule, Program}
 use Rattle.layout.specs.Layout.{atomsOf, rulesOf, pairsOf, partOf, kindByte, headByte, bodyBytes, firstOf, secondOf}
 

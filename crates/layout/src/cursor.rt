@@ -58,7 +58,7 @@ fn wide(byte: u8) -> u16
 }
 
 // The two-byte number at a place that has one, the low byte first.
-fn number_at(image: &[u8], at: usize) -> u16
+pub fn number_at(image: &[u8], at: usize) -> u16
     requires { ⌜ at + 2 ≤ length (now image) ⌝ }
     ensures { λ r. ⌜ r ≡ numberAt (now (image .entry)) at ⌝ }
 {

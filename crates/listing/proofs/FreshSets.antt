@@ -3,7 +3,8 @@ use mathlib.Core.Path.{_≡_, refl, sym, ap, _∙_}
 use mathlib.Core.Bool.{Bool, true, false, not, _&&_, _||_}
 use mathlib.Core.List.{List}
 use Prim.Native.Nat.{ℕ, zero, suc, _^_, _<_}
-use Rattle.literals.specs.Sets.{has, choose, minus, union}
+use Rattle.lists.specs.Lists.{choose}
+use Rattle.literals.specs.Sets.{has, minus, union}
 use Rattle.literals.proofs.Members.{has-empty, has-union, has-minus}
 use Rattle.program.specs.Program.{Rule, defeasibles, Π-mask}
 use Rattle.derivation.specs.Derivation.{HeadsBelow}

@@ -1,28 +1,28 @@
 -- The loops that read the arguments off the closure table, a lemma for each turn and for each way out, over plain numbers
 -- and lists.
-use mathlib.Core.Path.{_≡_, refl, sym, ap, ap₂, _∙_, subst}
+use mathlib.Core.Path.{_≡_, sym, ap, _∙_, subst}
 use mathlib.Core.Bool.{Bool, true, false}
-use mathlib.Core.List.{List, [], _∷_, _++_}
+use mathlib.Core.List.{List, _++_}
 use Prim.Native.Nat.{ℕ, _+_, _-_, _*_, _^_, _<_, _≤_}
 use native.Mathlib.Nat.{zero-add}
-use native.Mathlib.Numerals.{add-one}
 use native.Mathlib.Omega.{arith}
 use lib.Bits.{bitAnd, or-zero-l, or-zero-r}
 use lib.Count.{ones, ones-le}
 use lib.Dec.{leb}
-use lib.ListN.{length, drop, set, length-set, length-append}
+use lib.ListN.{length, drop, length-append}
 use lib.Seq.{sets, sets-eq}
 use borrow.Author.Tests.{eqb-true, le-leb, lt-leb}
-use Rattle.literals.specs.Sets.{has, choose, minus, union, within, clash}
+use Rattle.lists.specs.Lists.{choose}
+use Rattle.literals.specs.Sets.{has, minus, union, within, clash}
 use Rattle.literals.proofs.Members.{has-bound, minus-less}
 use Rattle.literals.proofs.Within.{within-each, within-refl, within-trans, within-union-left, minus-within}
 use Rattle.listing.specs.declared.Listed.the-variants.{Count, Over}
 use Rattle.argument.specs.inside.Fresh.{unionOver, derivedWithout}
 use Rattle.argument.specs.List.{listBy}
 use Rattle.argument.specs.inside.Closures.{closureAt}
-use Rattle.listing.specs.inside.Listing.{freshIn, listIn, membersFrom, Written, listed, withList}
+use Rattle.listing.specs.inside.Listing.{freshIn, listIn, membersFrom, listed, withList}
 use Rattle.listing.proofs.Unions.{union-assoc, unionOver-empty, unionOver-first}
-use Rattle.listing.proofs.Picks.{members-length, listed-next, listed-end, sets-append}
+use Rattle.listing.proofs.Picks.{members-length, membersBy, members-next, members-end}
 use Rattle.listing.proofs.Readings.{fresh-coherent}
 
 minus-all : (a b : ℕ) → within a b ≡ true → minus a b ≡ 0
@@ -85,21 +85,13 @@ module _ (t : List ℕ) (bits m : ℕ) (inside : m < 2 ^ bits) where
 -- the list of the masks from m on
 module _ (t : List ℕ) (bits end : ℕ) where
   abbrev pub listFrom : ℕ → List ℕ
-  listFrom m = listBy (λ k. has (freshIn t bits k)) m (end - m)
+  listFrom m = membersBy (freshIn t bits) end m
 
   pub list-all : end ≡ 2 ^ bits → listFrom 0 ≡ listIn t bits
   unfolding listIn
   list-all e =
       let whole : end - 0 ≡ 2 ^ bits = omega arith in
       ap (listBy (λ k. has (freshIn t bits k)) 0) whole
-
-  pub list-next : (m s : ℕ) → m < end → s ≡ freshIn t bits m → listFrom m ≡ membersFrom (m * 128) 128 s ++ listFrom (m + 1)
-  list-next m s l e =
-      listed-next (λ k. has (freshIn t bits k)) m end l
-      ∙ ap (λ (x : ℕ). membersFrom (m * 128) 128 x ++ listFrom (m + 1)) (sym e)
-
-  pub list-none : (m : ℕ) → end ≤ m → listFrom m ≡ []
-  list-none m l = listed-end (λ k. has (freshIn t bits k)) m end l
 
   -- with those of the masks from m on, as many are found as the list has
   pub record Counted (m found : ℕ) : Type 0 where
@@ -123,83 +115,13 @@ module _ (t : List ℕ) (bits end : ℕ) where
               state .rest,
               q,
               members-length 128 (m * 128) s small,
-              ap length (list-next m s l e),
+              ap length (members-next (freshIn t bits) end m s l e),
               length-append (membersFrom (m * 128) 128 s) (listFrom (m + 1)),
             );
       }
 
   pub counted-all : (m found : ℕ) → end ≤ m → Counted m found → found ≡ length (listIn t bits)
-  counted-all m found l state = omega (arith, state .rest, ap length (list-none m l))
-
--- a list that is being written from `at` on: `rest` is left for the places from `next` on
-pub record Writing (before after : List ℕ) (at next : ℕ) (whole rest : List ℕ) : Type 0 where
-  pub kept : length after ≡ length before
-  pub stores : sets after next rest ≡ sets before at whole
-  pub places : next + length rest ≡ at + length whole
-
-pub writing-all : (t : List ℕ) (at : ℕ) (l r : List ℕ) → r ≡ l → Writing t t at at l r
-writing-all t at l r e = record { kept = refl; stores = ap (sets t at) e; places = ap (λ (x : List ℕ). at + length x) e }
-
-module _ (before after : List ℕ) (at next : ℕ) (whole rest : List ℕ) (state : Writing before after at next whole rest) where
-  -- one number
-  pub writing-one : (x : ℕ) (l : List ℕ) → rest ≡ x ∷ l → Writing before (set after next x) at (next + 1) whole l
-  writing-one x l e =
-      record {
-        kept = simp length-set (state .kept);
-        stores = ap (λ (k : ℕ). sets (set after next x) k l) (add-one next) ∙ ap (sets after next) (sym e) ∙ state .stores;
-        places = omega (arith, state .places, ap length e);
-      }
-
-  module _ (l r : List ℕ) (e : rest ≡ l ++ r) where
-    pub writing-room : at + length whole ≤ length before → next + length l ≤ length after
-    writing-room h = omega (arith, state .kept, state .places, ap length e, length-append l r)
-
-    -- a part of the list
-    pub writing-part : (more : List ℕ) (n : ℕ) → length more ≡ length after → Written after more next n l
-        → Writing before more at n whole r
-    writing-part more n k w =
-        record {
-          kept = k ∙ state .kept;
-          stores = ap₂ (λ (x : List ℕ) (y : ℕ). sets x y r) (w .stored) (w .next-is) ∙ sym (sets-append l r after next)
-              ∙ ap (sets after next) (sym e) ∙ state .stores;
-          places = omega (arith, state .places, ap length e, length-append l r, w .next-is);
-        }
-
-  pub writing-none : rest ≡ [] → Written before after at next whole
-  writing-none e =
-      record {
-        stored = ap (sets after next) (sym e) ∙ state .stores;
-        next-is = omega (arith, state .places, ap length e);
-      }
-
--- one list after another
-pub written-append : (a b c : List ℕ) (at next end : ℕ) (l k w : List ℕ) → w ≡ l ++ k → Written a b at next l → Written b c next end k
-    → Written a c at end w
-written-append a b c at next end l k w e x y =
-    record {
-      stored = y .stored ∙ ap₂ (λ (s : List ℕ) (n : ℕ). sets s n k) (x .stored) (x .next-is) ∙ sym (sets-append l k a at)
-          ∙ ap (sets a at) (sym e);
-      next-is = omega (arith, y .next-is, x .next-is, ap length e, length-append l k);
-    }
-
--- the list is being written, and that of the masks from m on is left
-module _ (t : List ℕ) (bits end : ℕ) (before after : List ℕ) (at m : ℕ)
-    (state : Writing before after 0 at (listIn t bits) (listFrom t bits end m)) where
-  module _ (s : ℕ) (l : m < end) (e : s ≡ freshIn t bits m) where
-    pub list-room : length (listIn t bits) ≤ length before → at + length (membersFrom (m * 128) 128 s) ≤ length after
-    list-room h =
-        writing-room before after 0 at (listIn t bits) (listFrom t bits end m) state (membersFrom (m * 128) 128 s)
-        (listFrom t bits end (m + 1)) (list-next t bits end m s l e) (omega arith)
-
-    pub list-more : (more : List ℕ) (next : ℕ) → length more ≡ length after → Written after more at next (membersFrom (m * 128) 128 s)
-        → Writing before more 0 next (listIn t bits) (listFrom t bits end (m + 1))
-    list-more =
-        writing-part before after 0 at (listIn t bits) (listFrom t bits end m) state (membersFrom (m * 128) 128 s)
-        (listFrom t bits end (m + 1)) (list-next t bits end m s l e)
-
-  pub list-written : end ≤ m → after ≡ sets before 0 (listIn t bits)
-  list-written l =
-      writing-none before after 0 at (listIn t bits) (listFrom t bits end m) state (list-none t bits end m l) .stored
+  counted-all m found l state = omega (arith, state .rest, ap length (members-end (freshIn t bits) end m l))
 
 -- the two ways out of `list`: l is the list, k the one that was read and n its length
 module _ (l k table : List ℕ) (n : ℕ) (read : k ≡ l) (counted : n ≡ length k) where

@@ -1,4 +1,4 @@
--- Lists of the numbers that pass a test: when two are the same, how long they are, and how they are taken apart.
+-- Lists of the numbers that pass a test: when two are the same, how long they are, and how they are taken apart and written.
 use mathlib.Core.Path.{_≡_, refl, sym, ap, ap₂, _∙_}
 use mathlib.Core.Bool.{Bool, true, false, not, _&&_}
 use mathlib.Core.List.{List, [], _∷_, _++_}
@@ -9,10 +9,12 @@ use native.Mathlib.Numerals.{add-one, one-add}
 use native.Mathlib.Omega.{arith}
 use lib.Dec.{eqb}
 use lib.Count.{ones, ones-step}
-use lib.ListN.{length, set}
+use lib.ListN.{length}
 use lib.Seq.{sets}
 use borrow.Author.Tests.{eq-eqb, ne-eqb}
 use Rattle.lists.specs.Lists.{keep}
+use Rattle.lists.specs.inside.Stores.{Written}
+use Rattle.lists.proofs.Stores.{Writing, writing-room, writing-part, writing-none}
 use Rattle.literals.specs.Sets.{has, bit, minus, Lowest}
 use Rattle.literals.specs.inside.Words.{joined}
 use Rattle.literals.proofs.Bits.{bit-first, bit-below}
@@ -154,8 +156,32 @@ pub listed-end : (f : ℕ → ℕ → Bool) (m end : ℕ) → end ≤ m → list
 unfolding listBy
 listed-end f m end l = let none : end - m ≡ 0 = omega arith in ap (listBy f m) none
 
-pub sets-append : (xs ys l : List ℕ) (i : ℕ) → sets l i (xs ++ ys) ≡ sets (sets l i xs) (i + length xs) ys
-sets-append [] ys l i = ap (λ (k : ℕ). sets l k ys) (sym (add-zero i))
-sets-append (x ∷ xs) ys l i =
-    let next : suc i + length xs ≡ i + suc (length xs) = omega arith in
-    sets-append xs ys (set l i x) (suc i) ∙ ap (λ (k : ℕ). sets (sets (set l i x) (suc i) xs) k ys) next
+-- the members of a set for each number, for those from m on
+module _ (s : ℕ → ℕ) (end : ℕ) where
+  abbrev pub membersBy : ℕ → List ℕ
+  membersBy m = listBy (λ k. has (s k)) m (end - m)
+
+  pub members-next : (m x : ℕ) → m < end → x ≡ s m → membersBy m ≡ membersFrom (m * 128) 128 x ++ membersBy (m + 1)
+  members-next m x l e =
+      listed-next (λ k. has (s k)) m end l ∙ ap (λ (y : ℕ). membersFrom (m * 128) 128 y ++ membersBy (m + 1)) (sym e)
+
+  pub members-end : (m : ℕ) → end ≤ m → membersBy m ≡ []
+  members-end m l = listed-end (λ k. has (s k)) m end l
+
+-- they are being written, and those from m on are left
+module _ (s : ℕ → ℕ) (end : ℕ) (before after whole : List ℕ) (at m : ℕ)
+    (state : Writing before after 0 at whole (membersBy s end m)) where
+  module _ (x : ℕ) (l : m < end) (e : x ≡ s m) where
+    pub members-room : length whole ≤ length before → at + length (membersFrom (m * 128) 128 x) ≤ length after
+    members-room h =
+        writing-room before after 0 at whole (membersBy s end m) state (membersFrom (m * 128) 128 x) (membersBy s end (m + 1))
+        (members-next s end m x l e) (omega arith)
+
+    pub members-more : (more : List ℕ) (next : ℕ) → length more ≡ length after
+        → Written after more at next (membersFrom (m * 128) 128 x) → Writing before more 0 next whole (membersBy s end (m + 1))
+    members-more =
+        writing-part before after 0 at whole (membersBy s end m) state (membersFrom (m * 128) 128 x) (membersBy s end (m + 1))
+        (members-next s end m x l e)
+
+  pub members-written : end ≤ m → after ≡ sets before 0 whole
+  members-written l = writing-none before after 0 at whole (membersBy s end m) state (members-end s end m l) .stored

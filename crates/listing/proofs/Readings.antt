@@ -4,7 +4,8 @@ use mathlib.Core.Bool.{Bool, true, false, false≢true}
 use mathlib.Core.List.{List}
 use Prim.Native.Nat.{ℕ, _^_, _<_}
 use native.Mathlib.Omega.{arith}
-use Rattle.literals.specs.Sets.{has, choose, minus, clash}
+use Rattle.lists.specs.Lists.{choose}
+use Rattle.literals.specs.Sets.{has, minus, clash}
 use Rattle.literals.proofs.Tests.{not-true-false}
 use Rattle.literals.proofs.Members.{minus-less}
 use Rattle.program.specs.Program.{Rule, defeasibles}

@@ -8,7 +8,8 @@ use native.Mathlib.Decide.{ℕ-discrete}
 use native.Mathlib.Omega.{arith}
 use lib.Dec.{eqb}
 use borrow.Author.Tests.{ne-eqb}
-use Rattle.literals.specs.Sets.{has, choose, minus, union}
+use Rattle.lists.specs.Lists.{choose}
+use Rattle.literals.specs.Sets.{has, minus, union}
 use Rattle.literals.proofs.Tests.{or-left, or-right, or-cases, and-left, and-intro}
 use Rattle.literals.proofs.Members.{has-empty, has-ext, has-union, has-minus-power}
 use Rattle.literals.proofs.Within.{each-within, within-antisym}

@@ -3,9 +3,10 @@ ghost use mathlib.Core.Path.{_≡_};
 ghost use Prim.Native.Nat.{_+_, _*_, _^_, _<_, _≤_};
 ghost use lib.ListN.{length};
 ghost use lib.Seq.{sets};
+ghost use Rattle.lists.specs.inside.Stores.{Written};
 ghost use Rattle.literals.specs.inside.Words.{setOf};
 ghost use Rattle.argument.specs.inside.Closures.{Room};
-ghost use Rattle.listing.specs.inside.Listing.{freshIn, listIn, membersFrom, Written};
+ghost use Rattle.listing.specs.inside.Listing.{freshIn, listIn, membersFrom};
 use literals::LiteralSet;
 use literals::masks;
 
@@ -64,7 +65,7 @@ pub fn write(closures: &[u64], bits: u64, arguments: &mut [u32])
 }
 
 // Writes base + h for each member h, ascending, and returns the next place.
-fn write_set(arguments: &mut [u32], at: usize, base: u64, set: LiteralSet) -> usize
+pub fn write_set(arguments: &mut [u32], at: usize, base: u64, set: LiteralSet) -> usize
     requires { ⌜ at + length (membersFrom base 128 (setOf set)) ≤ length (now arguments) ⌝ }
     requires { ⌜ base + 128 ≤ 2 ^ 32 ⌝ }
     ensures { λ r. ⌜ Written (now (arguments .entry)) (now (arguments .exit)) at r (membersFrom base 128 (setOf set)) ⌝ }

@@ -5,3 +5,8 @@ pub mod Scans
 pub mod Decides
 pub mod Locals
 pub mod LocalArrays
+pub mod Places
+pub mod Permutations
+pub mod Sorting
+pub mod Numberings
+pub mod Stores

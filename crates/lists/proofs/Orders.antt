@@ -1,50 +1,64 @@
 -- Lists that ascend: their members settle them, and bounds that they keep.
-use mathlib.Core.Path.{_≡_, refl}
-use mathlib.Core.List.{List, [], _∷_, _++_, List·Memᴰ, List·Memᴰ·head, List·Memᴰ·tail, List·Memᴰ·not-nil, List·Memᴰ·cases-cons}
+use mathlib.Core.Path.{_≡_, refl, sym, ap₂, _∙_}
+use mathlib.Core.List.{List, [], _∷_, _++_, List·Memᴰ, List·Memᴰ·head, List·Memᴰ·tail, List·Memᴰ·not-nil, List·Memᴰ·cases-cons, Memᴰ·cast}
 use mathlib.Core.Logic.{_⊎_, inl, inr, ⊎-elim}
 use Prim.Native.Nat.{ℕ, zero, suc, _+_, _≤_, _<_}
 use native.Mathlib.Omega.{arith}
 use lib.ListN.{length, getD, drop}
-use Rattle.lists.specs.Lists.{Within, Ascending, Ascends}
+use Rattle.lists.proofs.Places.{there}
+use Rattle.lists.specs.Lists.{Within, Ordered, Distinct, Ascending, Ascends}
 
--- ---- by their members
+-- ---- by their elements
 
--- without their first elements the one is still within the other
-within-rest : {x y : ℕ} {l m : List ℕ} → x ≡ y → Ascending (x ∷ l) → Within (x ∷ l) (y ∷ m) → Within l m
-within-rest {x} {y} {l} {m} e a w z i = go (List·Memᴰ·cases-cons (w z (List·Memᴰ·tail i)))
-  where
-    go : (z ≡ y) ⊎ List·Memᴰ z m → List·Memᴰ z m
-    go (inl f) = let b = a .0 z i in absurd (omega arith)
-    go (inr j) = j
+-- an order that never has two elements before each other
+module _ {A : Type 0} (before : A → A → Type 0) (one-way : (x y : A) → before x y → before y x → ⊥) where
+  pub ordered-distinct : (l : List A) → Ordered before l → Distinct l
+  ordered-distinct [] o = tt
+  ordered-distinct (x ∷ l) o = (λ i. one-way x x (o .0 x i) (o .0 x i), ordered-distinct l (o .1))
 
--- the first elements are the least of the same numbers
-first-same : {x y : ℕ} {l m : List ℕ} → Ascending (x ∷ l) → Ascending (y ∷ m)
-    → Within (x ∷ l) (y ∷ m) → Within (y ∷ m) (x ∷ l) → x ≡ y
-first-same {x} {y} {l} {m} a b v w =
-    go (List·Memᴰ·cases-cons (v x (List·Memᴰ·head refl))) (List·Memᴰ·cases-cons (w y (List·Memᴰ·head refl)))
-  where
-    go : (x ≡ y) ⊎ List·Memᴰ x m → (y ≡ x) ⊎ List·Memᴰ y l → x ≡ y
-    go (inl e) f = e
-    go (inr i) (inl e) = omega arith
-    go (inr i) (inr j) = let c = a .0 y j in let d = b .0 x i in absurd (omega arith)
+  -- without their first elements the one is still within the other
+  within-rest : {x y : A} {l m : List A} → x ≡ y → Ordered before (x ∷ l) → Within (x ∷ l) (y ∷ m) → Within l m
+  within-rest {x} {y} {l} {m} e o w z i =
+      ⊎-elim (λ f. absurd (ordered-distinct (x ∷ l) o .0 (Memᴰ·cast (e ∙ sym f) i))) (λ j. j)
+      (List·Memᴰ·cases-cons (w z (List·Memᴰ·tail i)))
 
--- two ascending lists with the same members are one
+  -- the first elements are the least of the same
+  first-same : {x y : A} {l m : List A} → Ordered before (x ∷ l) → Ordered before (y ∷ m)
+      → Within (x ∷ l) (y ∷ m) → Within (y ∷ m) (x ∷ l) → x ≡ y
+  first-same {x} {y} {l} {m} o p v w =
+      go (List·Memᴰ·cases-cons (v x (List·Memᴰ·head refl))) (List·Memᴰ·cases-cons (w y (List·Memᴰ·head refl)))
+    where
+      go : (x ≡ y) ⊎ List·Memᴰ x m → (y ≡ x) ⊎ List·Memᴰ y l → x ≡ y
+      go (inl e) k = e
+      go (inr i) (inl e) = sym e
+      go (inr i) (inr j) = absurd (one-way x y (o .0 y j) (p .0 x i))
+
+  -- two ordered lists with the same elements are one
+  pub ordered-same : (l m : List A) → Ordered before l → Ordered before m → Within l m → Within m l → l ≡ m
+  ordered-same [] [] o p v w = refl
+  ordered-same [] (y ∷ m) o p v w = absurd (List·Memᴰ·not-nil (w y (List·Memᴰ·head refl)))
+  ordered-same (x ∷ l) [] o p v w = absurd (List·Memᴰ·not-nil (v x (List·Memᴰ·head refl)))
+  ordered-same (x ∷ l) (y ∷ m) o p v w =
+      let e = first-same o p v w in
+      ap₂ _∷_ e (ordered-same l m (o .1) (p .1) (within-rest e o v) (within-rest (sym e) p w))
+
+below-once : (x y : ℕ) → x < y → y < x → ⊥
+below-once x y h k = omega arith
+
+pub ascending-distinct : (l : List ℕ) → Ascending l → Distinct l
+ascending-distinct = ordered-distinct (λ x y. x < y) below-once
+
 pub ascending-same : (l m : List ℕ) → Ascending l → Ascending m → Within l m → Within m l → l ≡ m
-ascending-same [] [] a b v w = refl
-ascending-same [] (y ∷ m) a b v w = absurd (List·Memᴰ·not-nil (w y (List·Memᴰ·head refl)))
-ascending-same (x ∷ l) [] a b v w = absurd (List·Memᴰ·not-nil (v x (List·Memᴰ·head refl)))
-ascending-same (x ∷ l) (y ∷ m) a b v w =
-    let e = first-same a b v w in
-    let f : y ≡ x = omega arith in
-    let rest = ascending-same l m (a .1) (b .1) (within-rest e a v) (within-rest f b w) in
-    cc
+ascending-same = ordered-same (λ x y. x < y) below-once
 
 -- ---- by their places
 
-pub member-at : (l : List ℕ) (i : ℕ) → i < length l → List·Memᴰ (getD l i 0) l
-member-at [] i h = absurd (omega arith)
-member-at (x ∷ l) zero h = List·Memᴰ·head refl
-member-at (x ∷ l) (suc i) h = List·Memᴰ·tail (member-at l i (omega arith))
+pub ordered-at : {A : Type 0} (before : A → A → Type 0) (d : A) (l : List A) (i j : ℕ) → Ordered before l → i < j → j < length l
+    → before (getD l i d) (getD l j d)
+ordered-at before d [] i j o h k = absurd (omega arith)
+ordered-at before d (x ∷ l) i zero o h k = absurd (omega arith)
+ordered-at before d (x ∷ l) zero (suc j) o h k = o .0 (getD l j d) (there d l j (omega arith))
+ordered-at before d (x ∷ l) (suc i) (suc j) o h k = ordered-at before d l i j (o .1) (omega arith) (omega arith)
 
 -- none of those from a place on is below the one that stands there
 pub ascending-rest : (l : List ℕ) (i z : ℕ) → Ascending l → i < length l → List·Memᴰ z (drop i l) → getD l i 0 ≤ z

@@ -6,9 +6,24 @@ use Prim.Native.Nat.{ℕ, zero, suc, _≤_, _<_}
 use lib.Dec.{eqb}
 
 module _ {A : Type 0} where
+  -- a, where the test holds, and b where it does not
+  abbrev pub choose : Bool → A → A → A
+  choose true a b = a
+  choose false a b = b
+
   -- every element of l is one of m
   abbrev pub Within : List A → List A → Type 0
   Within l m = (x : A) → List·Memᴰ x l → List·Memᴰ x m
+
+  -- each element is before every one that follows it
+  abbrev pub Ordered : (A → A → Type 0) → List A → Type 0
+  Ordered before [] = Unit {0}
+  Ordered before (x ∷ l) = ((y : A) → List·Memᴰ y l → before x y) × Ordered before l
+
+  -- no element stands twice
+  abbrev pub Distinct : List A → Type 0
+  Distinct [] = Unit {0}
+  Distinct (x ∷ l) = ¬ List·Memᴰ x l × Distinct l
 
   -- l, with x before it if the test passed
   abbrev pub keep : Bool → A → List A → List A
@@ -40,10 +55,14 @@ abbrev pub upto : ℕ → ℕ → List ℕ
 upto first zero = []
 upto first (suc count) = first ∷ upto (suc first) count
 
+-- the first place at which a number stands in a list: "index in the argument list"
+abbrev pub indexIn : List ℕ → ℕ → ℕ
+indexIn [] x = 0
+indexIn (y ∷ l) x = let later = indexIn l x in choose (eqb y x) 0 (suc later)
+
 -- strictly ascending: each number is below every one that follows it
 abbrev pub Ascending : List ℕ → Type 0
-Ascending [] = Unit {0}
-Ascending (x ∷ l) = ((y : ℕ) → List·Memᴰ y l → x < y) × Ascending l
+Ascending = Ordered (λ x y. x < y)
 
 -- the same, from low on and below high
 abbrev pub Ascends : ℕ → ℕ → List ℕ → Type 0

@@ -9,7 +9,8 @@ use lib.Dec.{eqb}
 use lib.Pow.{pow-lt, pow-pos}
 use lib.Bits.{bitAnd, or-add-and, or-lt, and-le-l, and-le-r}
 use borrow.Author.Tests.{eqb-true, eqb-false, eq-eqb, ne-eqb}
-use Rattle.literals.specs.Sets.{bit, has, choose, insert, union, minus}
+use Rattle.lists.specs.Lists.{choose}
+use Rattle.literals.specs.Sets.{bit, has, insert, union, minus}
 use Rattle.literals.proofs.Tests.{same-test, and-intro, and-left, and-right, or-right, or-cases}
 use Rattle.literals.proofs.Bits.{bit-below, bit-cases, bit-half, bit-empty, bit-and, bit-or, bit-minus, bit-power-same, bit-power-only}
 use Rattle.literals.proofs.Bits.{bit-bound, bits-below, bit-le, bit-some, bit-ext, and-power}

@@ -6,6 +6,7 @@ use mathlib.Core.List.{List, [], _∷_}
 use Prim.Native.Nat.{ℕ, zero, suc, _+_, _-_, _*_, _/_, _%_, _^_, _<_}
 use lib.Dec.{eqb}
 use lib.Bits.{bitAnd, bitOr}
+use Rattle.lists.specs.Lists.{choose}
 
 -- digit k of s: 1 for a member, 0 otherwise
 unfoldable pub bit : ℕ → ℕ → ℕ
@@ -15,11 +16,6 @@ bit s k = s / 2 ^ k % 2
 unfoldable pub has : ℕ → ℕ → Bool
 unfolding bit
 has s k = eqb (bit s k) 1
-
--- a, where the test holds, and b where it does not
-abbrev pub choose : {A : Type 0} → Bool → A → A → A
-choose true a b = a
-choose false a b = b
 
 -- s with k
 unfoldable pub insert : ℕ → ℕ → ℕ

@@ -1,9 +1,10 @@
 // What a call returns, as one number for a C program.
 ghost use mathlib.Core.Path.{_≡_};
 ghost use Prim.Native.Nat.{_<_};
-ghost use Rattle.calls.specs.Calls.{refusalNumber, verdictNumber, listedNumber, answeredNumber, packed};
+ghost use Rattle.calls.specs.Calls.{refusalNumber, verdictNumber, listedNumber, writtenNumber, answeredNumber, packed};
 use answer::Answer;
 use calls::Listed;
+use calls::Written;
 use layout::Verdict;
 
 // A cause with its place: number * 2^32 + place.
@@ -30,6 +31,16 @@ pub fn listed(listed: Listed) -> u64
     match listed {
         Listed::Count(count) => count as u64,
         Listed::Refused { number, place } => refusal(number, place),
+    }
+}
+
+// The length of what a call wrote.
+pub fn written(written: Written) -> u64
+    ensures { λ r. ⌜ r ≡ writtenNumber written ⌝ }
+{
+    match written {
+        Written::Length(length) => length as u64,
+        Written::Refused { number, place } => refusal(number, place),
     }
 }
 

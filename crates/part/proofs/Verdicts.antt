@@ -32,7 +32,7 @@ module _ (part : List ℕ) (atoms before place : ℕ) where
   abbrev result : Verdict
   result = partVerdict part atoms before place
 
-  by-tests : (four five six seven eight nine : Bool) → badSize part ≡ four → badKind part ≡ five → badLiteral atoms part ≡ six → badBody part ≡ seven → badEmpty part ≡ eight → badSeventeenth before part ≡ nine → result ≡ part-causes place four five six seven eight nine
+  pub by-tests : (four five six seven eight nine : Bool) → badSize part ≡ four → badKind part ≡ five → badLiteral atoms part ≡ six → badBody part ≡ seven → badEmpty part ≡ eight → badSeventeenth before part ≡ nine → result ≡ part-causes place four five six seven eight nine
   unfolding partVerdict
   by-tests b4 b5 b6 b7 b8 b9 e4 e5 e6 e7 e8 e9 =
       ap (λ (b : Bool). part-causes place b (badKind part) (badLiteral atoms part) (badBody part) (badEmpty part) (badSeventeenth before part)) e4

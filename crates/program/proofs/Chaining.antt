@@ -12,7 +12,8 @@ use lib.ListN.{length}
 use lib.Bits.{or-add-and, and-le-r}
 use lib.Seq.{getD-set-same, getD-set-other}
 use Rattle.lists.proofs.Lists.{length-none}
-use Rattle.literals.specs.Sets.{has, choose, union}
+use Rattle.lists.specs.Lists.{choose}
+use Rattle.literals.specs.Sets.{has, union}
 use Rattle.literals.proofs.Tests.{or-left, or-right, or-cases}
 use Rattle.literals.proofs.Members.{has-union}
 use Rattle.program.specs.Program.{Program, defeasibles, bitOf}

@@ -8,8 +8,9 @@ use native.Mathlib.Nat.{eq-or-lt-of-le}
 use native.Mathlib.Omega.{arith}
 use lib.ListN.{length, getD, set, take, length-set}
 use lib.Seq.{getD-set-same, getD-set-other}
+use Rattle.lists.specs.Lists.{choose}
 use Rattle.literals.specs.declared.LiteralSet.{LiteralSet}
-use Rattle.literals.specs.Sets.{choose, insertAll}
+use Rattle.literals.specs.Sets.{insertAll}
 use Rattle.literals.specs.inside.Words.{joined, setOf}
 use Rattle.program.specs.Program.{Kind, strict, defeasible, Rule, Program, isDefeasible, nextBit, defeasiblesFrom, defeasibles, bitOf, ruleAt}
 use Rattle.program.specs.Limits.{DefeasibleAt}

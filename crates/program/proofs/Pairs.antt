@@ -7,7 +7,8 @@ use mathlib.Core.Logic.{_⊎_, inl, inr}
 use Prim.Native.Nat.{ℕ}
 use lib.Dec.{eqb}
 use borrow.Author.Tests.{eqb-true, eq-eqb}
-use Rattle.literals.specs.Sets.{has, choose, insert}
+use Rattle.lists.specs.Lists.{choose}
+use Rattle.literals.specs.Sets.{has, insert}
 use Rattle.literals.proofs.Members.{has-empty, has-insert-same, insert-cases, insert-keeps}
 use Rattle.program.specs.Program.{Rule, Program, bitOf}
 use Rattle.program.specs.inside.Filling.{listedFrom, listedMask}

@@ -9,11 +9,11 @@ use native.Mathlib.Numerals.{add-one}
 use lib.ListN.{length, getD, take, drop, drop-of-length-le}
 use lib.Seq.{getD-take, length-take-le}
 use lib.Dec.{T}
+use Rattle.lists.specs.Lists.{indexIn}
 use Rattle.defeat.specs.Tests.{Tests}
 use Rattle.tree.specs.Reply.{replyKind}
 use Rattle.tree.specs.Forest.{Forest, none, tree, size, allDefeated, markOf, from, replies}
 use Rattle.tree.specs.Entries.{Entry, entryOf, preorder}
-use Rattle.tree.specs.OfLiteral.{indexIn}
 use Rattle.tree.specs.inside.Tables.{Columns, written, Built, fits, over}
 use Rattle.tree.specs.inside.Steps.{treeEntries, settledBy, FirstReply}
 use Rattle.tree.proofs.Forest.{from-skip-at, from-take-at, replies-unroll}

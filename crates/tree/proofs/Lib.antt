@@ -7,7 +7,6 @@ pub mod Marks
 pub mod Published
 pub mod Preorder
 pub mod Exclusion
-pub mod Stores
 pub mod Tables
 pub mod Progress
 pub mod Growing

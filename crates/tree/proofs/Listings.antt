@@ -6,9 +6,9 @@ use native.Mathlib.Omega.{arith}
 use native.Mathlib.Nat.{pow-le-pow-right}
 use lib.ListN.{length, getD, take}
 use lib.Seq.{getD-take, length-take-le}
-use borrow.Author.Tests.{eq-eqb, ne-eqb}
-use Rattle.lists.specs.Lists.{Ascending}
-use Rattle.lists.proofs.Orders.{member-at, ascends-high}
+use Rattle.lists.specs.Lists.{indexIn}
+use Rattle.lists.proofs.Orders.{ascending-distinct, ascends-high}
+use Rattle.lists.proofs.Places.{index-of}
 use Rattle.literals.specs.Sets.{within}
 use Rattle.literals.proofs.Tests.{true-T}
 use Rattle.literals.proofs.Within.{within-refl}
@@ -17,19 +17,8 @@ use Rattle.argument.specs.Argument.{maskOf}
 use Rattle.argument.specs.List.{argumentList}
 use Rattle.argument.proofs.Lists.{list-ascends, list-ascending, list-length}
 use Rattle.defeat.specs.OfProgram.{testsOf}
-use Rattle.tree.specs.OfLiteral.{indexIn}
 use Rattle.tree.specs.inside.Steps.{Prepared, testsIn}
 use Rattle.tree.proofs.Growing.{Listing}
-
--- ---- a list that ascends
-
--- each number's first place is the only one
-pub index-at : (l : List ℕ) (j : ℕ) → Ascending l → j < length l → indexIn l (getD l j 0) ≡ j
-index-at [] j a h = absurd (omega arith)
-index-at (x ∷ l) zero a h = rw (eq-eqb x x refl)
-index-at (x ∷ l) (suc j) a h =
-    let b = a .0 (getD l j 0) (member-at l j (omega arith)) in
-    rw (ne-eqb x (getD l j 0) (λ e. omega arith), index-at l j (a .1) (omega arith))
 
 -- ---- the tables
 
@@ -71,5 +60,5 @@ module _ {table closures exclusions arguments : List ℕ} {count : ℕ} (w : Pre
     listed = w .made .listed;
     placed = λ j h.
         subst (λ (x : ℕ). indexIn l x ≡ j) (ap (λ (m : List ℕ). getD m j 0) (sym (w .made .listed)) ∙ getD-take count arguments j 0 h)
-        (index-at l j (list-ascending (w .program .rules)) (omega (arith, listed-length)));
+        (index-of l j (ascending-distinct l (list-ascending (w .program .rules))) (omega (arith, listed-length)));
   }

@@ -5,7 +5,7 @@ use mathlib.Core.List.{List, [], _∷_, _++_, List·Memᴰ, List·Memᴰ·head, 
 use mathlib.Core.Logic.{_⊎_, inl, inr, _↔_}
 use Prim.Native.Nat.{ℕ, suc, _+_}
 use lib.Dec.{T, eqb}
-use Rattle.literals.specs.Sets.{choose}
+use Rattle.lists.specs.Lists.{choose, indexIn}
 use Rattle.defeat.specs.Frame.{Frame}
 use Rattle.defeat.specs.Tests.{Tests}
 use Rattle.defeat.proofs.Laws.{Laws}
@@ -14,7 +14,7 @@ use Rattle.tree.specs.Line.{AcceptableLine}
 use Rattle.tree.specs.Marks.{Mark, U, D, Marked}
 use Rattle.tree.specs.Forest.{Forest, tree, size, allDefeated, markOf, replies}
 use Rattle.tree.specs.Entries.{Entry, entryOf, preorder, entries}
-use Rattle.tree.specs.OfLiteral.{indexIn, forest, forestEntries}
+use Rattle.tree.specs.OfLiteral.{forest, forestEntries}
 use Rattle.tree.specs.Published.{Children, Grows, no-more, node, IndexIn, here, later, parentAfter, numberOf}
 use Rattle.tree.specs.Published.{InPreorder, no-entry, entry, EntriesFor}
 use Rattle.tree.proofs.Line.{line-last, acceptable-one}

@@ -7,7 +7,7 @@ use lib.ListN.{length, set, length-append}
 use lib.Seq.{drop-set-lt}
 use Rattle.tree.specs.Entries.{Entry}
 use Rattle.tree.specs.inside.Tables.{Columns, columns, written, past, Built, fits, over}
-use Rattle.tree.proofs.Stores.{set-sets}
+use Rattle.lists.proofs.Stores.{set-sets}
 use Rattle.tree.proofs.Tables.{columns-same, written-append, written-past}
 
 -- `left` of the entries are still to be written, from number `next` on

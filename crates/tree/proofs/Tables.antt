@@ -8,7 +8,7 @@ use lib.ListN.{length, getD, drop, length-map}
 use lib.Seq.{sets, sets-eq}
 use Rattle.tree.specs.Entries.{Entry}
 use Rattle.tree.specs.inside.Tables.{Columns, columns, written, past}
-use Rattle.tree.proofs.Stores.{sets-append, drop-sets, getD-first}
+use Rattle.lists.proofs.Stores.{sets-append, drop-sets, getD-first}
 
 -- ---- one column
 

@@ -10,13 +10,13 @@ use lib.ListN.{length, getD, drop, drop-of-length-le}
 use lib.Seq.{drop-cons}
 use lib.Dec.{eqb}
 use borrow.Author.Tests.{eq-eqb, ne-eqb}
-use Rattle.lists.specs.Lists.{any, filter}
+use Rattle.lists.specs.Lists.{any, filter, indexIn}
 use Rattle.derivation.specs.Derivation.{complement}
 use Rattle.argument.specs.Argument.{literalOf}
 use Rattle.defeat.specs.Tests.{Tests}
 use Rattle.tree.specs.Forest.{Forest, none, tree, size, markOf, replies, forestOf, undefeatedRoot}
 use Rattle.tree.specs.Entries.{Entry, entries}
-use Rattle.tree.specs.OfLiteral.{indexIn, argumentsFor, forest, forestEntries, warranted}
+use Rattle.tree.specs.OfLiteral.{argumentsFor, forest, forestEntries, warranted}
 use Rattle.tree.specs.inside.Tables.{Columns, Built, fits, over}
 use Rattle.tree.specs.inside.Steps.{treeEntries}
 use Rattle.tree.specs.inside.Roots.{FirstFor, TreesBuilt, ForestBuilt}

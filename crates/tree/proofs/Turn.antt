@@ -4,12 +4,12 @@ use mathlib.Core.List.{List, _∷_}
 use Prim.Native.Nat.{ℕ, suc, _+_, _-_, _^_, _≤_, _<_}
 use native.Mathlib.Omega.{arith}
 use lib.ListN.{length, getD, length-set}
+use Rattle.lists.specs.Lists.{indexIn}
 use Rattle.literals.specs.Sets.{union}
 use Rattle.argument.specs.Argument.{maskOf}
 use Rattle.defeat.specs.Tests.{Tests}
 use Rattle.tree.specs.Forest.{allDefeated, markOf, replies}
 use Rattle.tree.specs.Entries.{Entry, preorder}
-use Rattle.tree.specs.OfLiteral.{indexIn}
 use Rattle.tree.specs.inside.Tables.{Columns, columns, Hold, Built}
 use Rattle.tree.specs.inside.Steps.{lineOf, treeEntries, settledBy, Prepared, testsIn, Ready, Leaves, Asked, FirstReply, Enters, Entered}
 use Rattle.tree.proofs.Progress.{opened, closed}

@@ -3,18 +3,12 @@ use mathlib.Core.Bool.{Bool}
 use mathlib.Core.List.{List, [], _∷_, _++_}
 use Prim.Native.Nat.{ℕ, suc}
 use lib.Dec.{eqb}
-use Rattle.lists.specs.Lists.{any, filter}
-use Rattle.literals.specs.Sets.{choose}
+use Rattle.lists.specs.Lists.{any, filter, indexIn}
 use Rattle.derivation.specs.Derivation.{complement}
 use Rattle.argument.specs.Argument.{literalOf}
 use Rattle.defeat.specs.Tests.{Tests}
 use Rattle.tree.specs.Forest.{Forest, size, forestOf, undefeatedRoot}
 use Rattle.tree.specs.Entries.{Entry, entries}
-
--- the first place at which a number stands in a list: "index in the argument list"
-abbrev pub indexIn : List ℕ → ℕ → ℕ
-indexIn [] x = 0
-indexIn (y ∷ l) x = let later = indexIn l x in choose (eqb y x) 0 (suc later)
 
 module _ (t : Tests ℕ) where
   -- the arguments for h, in list order

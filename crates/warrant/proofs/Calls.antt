@@ -25,6 +25,7 @@ use Rattle.calls.specs.Calls.{nodesAfter, zeroed, queryColumn, queryTable, pack
 use Rattle.calls.specs.Calls.{Call, query, host, trees, asked, literalAsked, verdictOf, codeFrom, nodesFrom}
 use Rattle.nodes.proofs.Rows.{front-length}
 use Rattle.answer.proofs.Answers.{entries-count, answer-not-refused, answer-nodes-within}
+use Rattle.calls.proofs.Verdicts.{unless-length}
 use Rattle.calls.proofs.Refusals.{Bounded, query-refused, list-accepted, query-accepted}
 
 -- ---- the host call's number
@@ -147,11 +148,6 @@ module _ (s : List ℕ) where
 -- ---- lent tables keep their length
 
 module _ {A : Type 0} where
-  unless-length : (v : Verdict) (l table : List A) → (v ≡ verdicts.Accepted → length l ≤ length table)
-      → length (unlessRefused v (front l table) table) ≡ length table
-  unless-length verdicts.Accepted l table f = front-length l table (f refl)
-  unless-length (verdicts.Refused n place) l table f = refl
-
   -- the forest is within the budget where it is written, and the budget within the table
   after-length : (b n : ℕ) (l : List A) (empty : A) (table : List A) → b ≤ length table → (o v w m : Bool)
       → (T (not v) → length l ≤ b) → length (nodesAfter (answerOf o v w m b n) l empty table) ≡ length table

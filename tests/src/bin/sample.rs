@@ -7,11 +7,12 @@
 
 use std::process::ExitCode;
 
-use foqtirel_binding::raw::{foqtirel_list, foqtirel_trees};
+use foqtirel_binding::raw::{foqtirel_file, foqtirel_list, foqtirel_trees};
 use foqtirel_binding::{answered, answered_with_trees, check, granted, query, Node};
 use foqtirel_tests::generator::accepted::small_programs;
+use foqtirel_tests::generator::filing::alike;
 use foqtirel_tests::generator::late::late;
-use foqtirel_tests::generator::lengths::cut_and_continued;
+use foqtirel_tests::generator::lengths::{cut_and_continued, greatest};
 use foqtirel_tests::generator::{accepted, chained, damaged};
 use foqtirel_tests::reference::image::defeasible_rules;
 use foqtirel_tests::vectors;
@@ -76,6 +77,12 @@ fn run(counts: &mut Counts) {
     for case in cut_and_continued().into_iter().chain(late()) {
         let image: Box<[u8]> = case.image.into();
         counts.result(granted(check(&image)).is_ok());
+        file(&image, image.len(), counts);
+    }
+    for longest in [greatest(), alike()] {
+        let image = longest.image();
+        file(&image, image.len(), counts);
+        file(&image, image.len() - 1, counts);
     }
 }
 
@@ -83,6 +90,8 @@ fn run(counts: &mut Counts) {
 fn ask(image: &[u8], literal: u32, budget: u32, more: usize, counts: &mut Counts) {
     let image: Box<[u8]> = image.into();
     counts.result(granted(check(&image)).is_ok());
+    file(&image, image.len() + more, counts);
+    file(&image, image.len().saturating_sub(1), counts);
     counts.result(answered(query(&image, literal, budget)).is_ok());
     let count = list(&image, MOST_ARGUMENTS, counts).unwrap_or(more);
     let nodes = budget as usize;
@@ -94,6 +103,21 @@ fn ask(image: &[u8], literal: u32, budget: u32, more: usize, counts: &mut Counts
         list(&image, room, counts);
         trees(&image, literal, budget, (room, node_room), count, counts);
     }
+}
+
+/// The filed form is checked, which depends on every byte of it.
+fn file(image: &[u8], room: usize, counts: &mut Counts) {
+    let mut out: Vec<u8> = Vec::with_capacity(room);
+    // SAFETY: pointers and lengths are those of the allocations, and the call has written as many bytes as it says.
+    let filed = unsafe {
+        let table = out.as_mut_ptr();
+        let given = granted(foqtirel_file(image.as_ptr(), image.len(), table, room));
+        out.set_len(room.min(given.unwrap_or(0) as usize));
+        given.is_ok()
+    };
+    counts.result(filed);
+    counts.entries += out.len();
+    counts.odd += usize::from(filed && granted(check(&out)).is_err());
 }
 
 /// The number of arguments, unless the list is refused.

@@ -8,14 +8,16 @@ use markdown::{pieces, Piece};
 use sources::Sources;
 
 /// Words in backquotes that are nothing of this tree: of the language, its library and the programs around.
-const WORDS: [&str; 19] = [
+const WORDS: [&str; 21] = [
     "abbrev",
     "add-one",
     "ap",
     "apt-get",
     "cargo",
+    "cmp",
     "ctypes",
     "deref",
+    "diff",
     "ensures",
     "length",
     "let",

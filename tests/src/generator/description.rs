@@ -54,6 +54,26 @@ impl Description {
         self.parts().image()
     }
 
+    /// The program of a sound image.
+    pub fn of_image(image: &[u8]) -> Description {
+        let number = |at: usize| u16::from_le_bytes([image[at], image[at + 1]]);
+        let part = |entry: usize| {
+            let offset = usize::from(number(8 + 4 * entry));
+            &image[offset..offset + usize::from(number(10 + 4 * entry))]
+        };
+        let rules = usize::from(number(2));
+        let rule = |bytes: &[u8]| RuleText {
+            defeasible: bytes[0] == 1,
+            head: bytes[1],
+            body: bytes[2..].to_vec(),
+        };
+        Description {
+            atoms: number(0),
+            rules: (0..rules).map(|entry| rule(part(entry))).collect(),
+            pairs: part(rules).chunks(2).map(|two| (two[0], two[1])).collect(),
+        }
+    }
+
     /// Reads the notation of document 01: rules and pairs separated by semicolons, `head<body`,
     /// `d` for defeasible, body literals separated by commas, pairs as `(first,second)`. The
     /// atom count is the least that fits, unless `atoms n` names a greater one.

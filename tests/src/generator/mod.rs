@@ -5,6 +5,7 @@ pub mod chained;
 pub mod changes;
 pub mod damage;
 pub mod description;
+pub mod filing;
 pub mod late;
 pub mod lengths;
 pub mod limits;

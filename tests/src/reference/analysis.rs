@@ -6,11 +6,10 @@ use std::rc::Rc;
 
 use super::argument::{all_arguments, derived_by_each_mask, Argument};
 use super::attack::{defeaters_of, Defeat, Exclusion, Preference};
-use super::derivation::contradictory;
-use super::image::read_image;
+use super::calls::accepted;
 use super::literal::{Literal, LiteralSet};
 use super::program::Program;
-use super::refusal::{Cause, Refusal};
+use super::refusal::Refusal;
 
 /// Defeaters kept for later use are dropped above this number, to bound the memory.
 const MOST_KEPT_DEFEATERS: usize = 4_000_000;
@@ -37,11 +36,7 @@ struct KeptDefeaters {
 impl Analysis {
     /// Reads an image with all causes 1 to 14 and works out its arguments.
     pub fn of_image(image: &[u8]) -> Result<Analysis, Refusal> {
-        let program = read_image(image)?;
-        if contradictory(&program.strict_rules(), &[]) {
-            return Err(Refusal::whole(Cause::StrictContradiction));
-        }
-        Ok(Analysis::of(program))
+        accepted(image).map(Analysis::of)
     }
 
     fn of(program: Program) -> Analysis {

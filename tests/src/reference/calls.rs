@@ -2,8 +2,10 @@
 
 use super::analysis::Analysis;
 use super::derivation::contradictory;
+use super::filing::{filed, write_image};
 use super::image::read_image;
 use super::literal::Literal;
+use super::program::Program;
 use super::refusal::{Cause, Refusal};
 use super::tree::{Forest, Mark, NodeEntry};
 
@@ -52,11 +54,27 @@ pub fn host_number(result: Result<Answer, Refusal>) -> u32 {
 
 /// Checks an image, causes 1 to 14.
 pub fn check(image: &[u8]) -> Result<(), Refusal> {
+    accepted(image).map(|_| ())
+}
+
+/// The program of an image that has none of the causes 1 to 14.
+pub fn accepted(image: &[u8]) -> Result<Program, Refusal> {
     let program = read_image(image)?;
     if contradictory(&program.strict_rules(), &[]) {
         return Err(Refusal::whole(Cause::StrictContradiction));
     }
-    Ok(())
+    Ok(program)
+}
+
+/// Writes the filed form of an image to the front of a lent byte table; returns its length.
+pub fn file(image: &[u8], out: &mut [u8]) -> Result<usize, Refusal> {
+    let program = accepted(image)?;
+    if out.len() < image.len() {
+        return Err(Refusal::whole(Cause::OutputTable));
+    }
+    let form = write_image(&filed(&program));
+    out[..form.len()].copy_from_slice(&form);
+    Ok(form.len())
 }
 
 /// Lists the arguments of an image; returns how many there are.

@@ -1,4 +1,5 @@
-//! Document 01 in the words of its definitions. Nothing here is meant to be fast.
+//! Document 01 in the words of its definitions, with the requests of document 02 that are met. Nothing here is meant to be
+//! fast.
 
 pub mod advise;
 pub mod analysis;
@@ -6,6 +7,7 @@ pub mod argument;
 pub mod attack;
 pub mod calls;
 pub mod derivation;
+pub mod filing;
 pub mod image;
 pub mod line;
 pub mod literal;
@@ -16,7 +18,7 @@ pub mod tree;
 pub use advise::advise;
 pub use analysis::Analysis;
 pub use argument::Argument;
-pub use calls::{check, host_call, host_number, list, query, Answer, Code, MOST_NODES};
+pub use calls::{check, file, host_call, host_number, list, query, Answer, Code, MOST_NODES};
 pub use image::read_image;
 pub use literal::Literal;
 pub use program::{Kind, Program, Rule};

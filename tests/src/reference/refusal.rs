@@ -1,6 +1,6 @@
 //! Causes for turning an image or a call away.
 
-/// The causes of document 01 with its numbers.
+/// The causes of document 01 with its numbers, and of the requests that add some.
 #[derive(Clone, Copy, Debug, PartialEq, Eq, PartialOrd, Ord)]
 pub enum Cause {
     ImageLength = 1,
@@ -21,11 +21,12 @@ pub enum Cause {
     Budget = 21,
     NodeTable = 22,
     ArgumentTable = 23,
+    OutputTable = 24,
 }
 
 impl Cause {
     /// All causes in the order of their numbers.
-    pub const ALL: [Cause; 18] = [
+    pub const ALL: [Cause; 19] = [
         Cause::ImageLength,
         Cause::Header,
         Cause::Directory,
@@ -44,6 +45,7 @@ impl Cause {
         Cause::Budget,
         Cause::NodeTable,
         Cause::ArgumentTable,
+        Cause::OutputTable,
     ];
 
     pub fn number(self) -> u32 {

@@ -6,6 +6,7 @@ use std::process::{Command, Output};
 
 use foqtirel::engine;
 use foqtirel::explain::{self, Told};
+use foqtirel::program::{Program, Rule};
 
 pub struct Ran {
     pub status: i32,
@@ -68,6 +69,48 @@ impl Random {
             .wrapping_add(1442695040888963407);
         ((self.0 >> 33) as usize) % bound
     }
+}
+
+/// A program of any size that keeps the limits; its facts and strict rules may contradict each other.
+pub fn program(random: &mut Random) -> Program {
+    let atoms = [0, 1, 3, 6, 12, 30, 64][random.below(7)];
+    let mut program = Program {
+        atoms: (0..atoms).map(|atom| format!("a{atom}")).collect(),
+        ..Program::default()
+    };
+    let most = [4, 12, 40, 97][random.below(4)].min(3 * atoms + 1);
+    let wanted = if atoms == 0 { 0 } else { random.below(most) };
+    let mut defeasible = 0;
+    for _ in 0..wanted {
+        let mut body: Vec<u8> = (0..random.below(9).min(random.below(9)))
+            .map(|_| random.below(2 * atoms) as u8)
+            .collect();
+        body.sort_unstable();
+        body.dedup();
+        let yields = defeasible < 16 && !body.is_empty() && random.below(2) == 0;
+        let rule = Rule {
+            label: None,
+            defeasible: yields,
+            head: random.below(2 * atoms) as u8,
+            body,
+        };
+        if !program.rules.contains(&rule) {
+            defeasible += usize::from(yields);
+            program.rules.push(rule);
+        }
+    }
+    let yields: Vec<u8> = (0..program.rules.len())
+        .filter(|&n| program.rules[n].defeasible)
+        .map(|n| n as u8)
+        .collect();
+    for &first in &yields {
+        for &second in yields.iter().filter(|&&second| second != first) {
+            if random.below(4) == 0 {
+                program.pairs.push((first, second));
+            }
+        }
+    }
+    program
 }
 
 /// The defeaters in the trees of all literals of an image, none where it is refused. Each has words for what it

@@ -1,7 +1,8 @@
 -- All arguments with one mask as one set of literals: those that the mask derives and no mask with one rule less does.
 use mathlib.Core.List.{List}
 use Prim.Native.Nat.{ℕ, zero, suc, _^_}
-use Rattle.literals.specs.Sets.{has, choose, minus, union, clash}
+use Rattle.lists.specs.Lists.{choose}
+use Rattle.literals.specs.Sets.{has, minus, union, clash}
 use Rattle.program.specs.Program.{Rule, Π-mask, defeasibles}
 use Rattle.derivation.specs.Closure.{closure}
 

@@ -5,8 +5,7 @@ use mathlib.Core.List.{List, _∷_}
 use Prim.Native.Nat.{ℕ, _/_, _^_, _≤_, _<_}
 use lib.Dec.{eqb, leb}
 use lib.ListN.{length, take}
-use Rattle.lists.specs.Lists.{any}
-use Rattle.literals.specs.Sets.{choose}
+use Rattle.lists.specs.Lists.{any, choose}
 use Rattle.program.specs.Program.{Rule, Program, defeasibles}
 use Rattle.program.specs.Limits.{Limits}
 use Rattle.program.specs.inside.Table.{Holds}

@@ -4,7 +4,8 @@ use mathlib.Core.List.{List}
 use Prim.Native.Nat.{ℕ}
 use lib.Count.{ones}
 use lib.Dec.{eqb, ltb}
-use Rattle.literals.specs.Sets.{has, choose, within}
+use Rattle.lists.specs.Lists.{choose}
+use Rattle.literals.specs.Sets.{has, within}
 use Rattle.program.specs.Program.{Rule, isDefeasible}
 use Rattle.program.specs.inside.Table.{headAt, bodyAt, needAt}
 use Rattle.derivation.specs.Closure.{fire}

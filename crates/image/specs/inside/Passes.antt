@@ -5,7 +5,8 @@ use mathlib.Core.List.{List}
 use Prim.Native.Nat.{ℕ, suc, _+_, _*_, _<_, _≤_}
 use lib.ListN.{length, getD, set}
 use lib.Dec.{ltb, leb, eqb}
-use Rattle.literals.specs.Sets.{choose, insertAll}
+use Rattle.lists.specs.Lists.{choose}
+use Rattle.literals.specs.Sets.{insertAll}
 use Rattle.program.specs.Program.{strict, defeasible, Rule, bitOf, defeasibles}
 use Rattle.program.specs.inside.Table.{headAt, bodyAt, needAt}
 use Rattle.program.specs.inside.Filling.{RowsTo}

@@ -1,11 +1,11 @@
 -- The argument list, read off the closure table, and what the calls that write it return and leave.
 use mathlib.Core.Path.{_≡_}
 use mathlib.Core.List.{List, _++_}
-use Prim.Native.Nat.{ℕ, _+_, _^_}
+use Prim.Native.Nat.{ℕ, _^_}
 use lib.Dec.{leb}
 use lib.ListN.{length, drop}
-use lib.Seq.{sets}
-use Rattle.literals.specs.Sets.{has, choose}
+use Rattle.lists.specs.Lists.{choose}
+use Rattle.literals.specs.Sets.{has}
 use Rattle.program.specs.Program.{Program}
 use Rattle.program.specs.Limits.{Limits}
 use Rattle.program.specs.inside.Table.{Holds}
@@ -26,11 +26,6 @@ listIn t bits = listBy (λ m. has (freshIn t bits m)) 0 (2 ^ bits)
 -- base + h, for the members h of s below n
 abbrev pub membersFrom : ℕ → ℕ → ℕ → List ℕ
 membersFrom base n s = picked (has s) base 0 n
-
--- a list was written from `at` on, and the next place is `next`
-pub record Written (before after : List ℕ) (at next : ℕ) (l : List ℕ) : Type 0 where
-  pub stored : after ≡ sets before at l
-  pub next-is : next ≡ at + length l
 
 -- "listing returns the argument count", or says "More arguments than the argument table holds"
 abbrev pub listed : List ℕ → List ℕ → Listed

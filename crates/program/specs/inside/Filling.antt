@@ -5,7 +5,8 @@ use mathlib.Core.List.{List, [], _∷_}
 use Prim.Native.Nat.{ℕ, _<_, _≤_}
 use lib.ListN.{length, getD}
 use lib.Dec.{eqb}
-use Rattle.literals.specs.Sets.{has, choose, insert, union}
+use Rattle.lists.specs.Lists.{choose}
+use Rattle.literals.specs.Sets.{has, insert, union}
 use Rattle.program.specs.Program.{Rule, Program, isDefeasible, bitOf, ruleAt}
 use Rattle.program.specs.inside.Table.{headAt, bodyAt, needAt, ruleOfBit, beatenAt, Row, BeatenMask}
 

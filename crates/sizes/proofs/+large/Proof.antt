@@ -6,7 +6,7 @@ use native.Mathlib.Omega.{arith}
 use lib.Dec.{leb}
 use lib.ListN.{length, drop}
 use borrow.Author.Needs.{needs}
-use Rattle.literals.specs.Sets.{choose}
+use Rattle.lists.specs.Lists.{choose}
 use Rattle.program.specs.Program.{Program}
 use Rattle.program.specs.Limits.{Limits}
 use Rattle.program.specs.inside.Table.{Holds}

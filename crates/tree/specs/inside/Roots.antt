@@ -5,12 +5,13 @@ use mathlib.Core.List.{List}
 use mathlib.Core.Logic.{_≢_}
 use Prim.Native.Nat.{ℕ, _≤_, _<_}
 use lib.ListN.{length, getD}
+use Rattle.lists.specs.Lists.{indexIn}
 use Rattle.derivation.specs.Derivation.{complement}
 use Rattle.argument.specs.Argument.{literalOf}
 use Rattle.defeat.specs.Tests.{Tests}
 use Rattle.tree.specs.Forest.{forestOf}
 use Rattle.tree.specs.Entries.{entries}
-use Rattle.tree.specs.OfLiteral.{indexIn, argumentsFor, forestEntries, warranted}
+use Rattle.tree.specs.OfLiteral.{argumentsFor, forestEntries, warranted}
 use Rattle.tree.specs.inside.Tables.{Columns, Hold, Built}
 use Rattle.tree.specs.inside.Steps.{Prepared}
 

@@ -5,8 +5,8 @@ use mathlib.Core.Logic.{_≢_}
 use Prim.Native.Nat.{ℕ, zero, suc, _^_, _≤_, _<_}
 use lib.ListN.{length, getD, take, set}
 use lib.Dec.{eqb}
-use Rattle.lists.specs.Lists.{Within}
-use Rattle.literals.specs.Sets.{choose, union}
+use Rattle.lists.specs.Lists.{Within, choose, indexIn}
+use Rattle.literals.specs.Sets.{union}
 use Rattle.program.specs.Program.{Program, defeasibles}
 use Rattle.argument.specs.Argument.{maskOf}
 use Rattle.argument.specs.inside.Closures.{Room}
@@ -17,7 +17,6 @@ use Rattle.defeat.specs.OfProgram.{testsOf}
 use Rattle.tree.specs.Reply.{mine, theirs, replyKind, lastKind}
 use Rattle.tree.specs.Forest.{none, tree, replies}
 use Rattle.tree.specs.Entries.{Entry, preorder}
-use Rattle.tree.specs.OfLiteral.{indexIn}
 use Rattle.tree.specs.inside.Tables.{Columns, Hold, Built}
 
 -- a table holds the line with its root first; as a list its last argument is first

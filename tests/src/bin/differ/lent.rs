@@ -47,6 +47,13 @@ impl<Entry: Clone> Lent<Entry> {
     }
 }
 
+/// A table of bytes.
+pub fn bytes(length: usize, random: &mut Random) -> Lent<u8> {
+    // With most bits gone, junk looks like numbers of an image.
+    let fewer_bits = random.pick(&[0, 6]);
+    Lent::filled(length, || random.byte() >> fewer_bits)
+}
+
 /// A table of arguments.
 pub fn arguments(length: usize, random: &mut Random) -> Lent<u32> {
     // With nine bits less, junk looks like entries of a list.

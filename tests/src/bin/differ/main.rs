@@ -1,9 +1,11 @@
 //! Runs the proved library against the reference and against what is known from construction.
 //!
 //! `differ [seed] [damaged images] [accepted images]`; the two counts are those of the check, which takes all that are made by
-//! rule besides. `--query` compares queries alone.
+//! rule besides. `--query` compares queries alone, `--file` filing alone.
 
 mod check;
+mod file;
+mod filereport;
 mod granted;
 mod images;
 mod lent;
@@ -20,14 +22,15 @@ const DEFAULT_DAMAGED: usize = 24_000;
 const DEFAULT_ACCEPTED: usize = 6_000;
 
 fn main() -> ExitCode {
-    let mut query_alone = false;
+    let mut alone: Option<&str> = None;
     let mut numbers: Vec<u64> = Vec::new();
     for word in std::env::args().skip(1) {
         match word.parse() {
-            _ if word == "--query" => query_alone = true,
+            _ if word == "--query" => alone = Some("query"),
+            _ if word == "--file" => alone = Some("file"),
             Ok(number) => numbers.push(number),
             Err(_) => {
-                eprintln!("usage: differ [--query] [seed] [damaged] [accepted]");
+                eprintln!("usage: differ [--query | --file] [seed] [damaged] [accepted]");
                 return ExitCode::from(2);
             }
         }
@@ -43,17 +46,27 @@ fn main() -> ExitCode {
     println!("seed {seed}, {damaged} damaged images, {accepted} accepted ones");
 
     let mut sound = true;
-    if !query_alone {
+    let wanted = |part: &str| alone.is_none_or(|alone| alone == part);
+    if wanted("check") {
         let mut report = report::Report::default();
         check::compare(seed, damaged, accepted, &mut report);
         sound &= report.finish();
+    }
+    if wanted("file") {
+        let mut report = filereport::FileReport::default();
+        file::compare(seed, &mut report);
+        sound &= report.finish();
+    }
+    if wanted("list") {
         let mut report = listreport::ListReport::default();
         list::compare(seed, &mut report);
         sound &= report.finish();
     }
-    let mut report = queryreport::QueryReport::default();
-    query::compare(seed, &mut report);
-    sound &= report.finish();
+    if wanted("query") {
+        let mut report = queryreport::QueryReport::default();
+        query::compare(seed, &mut report);
+        sound &= report.finish();
+    }
     if sound {
         ExitCode::SUCCESS
     } else {

@@ -133,8 +133,9 @@ impl QueryReport {
     pub fn finish(mut self) -> bool {
         let faults = &mut self.faults;
         self.images.finish("query", LEAST_PROGRAMS, faults);
-        self.query.finish("query", &[], faults);
-        self.host.finish("C call", &[Cause::NodeTable], faults);
+        self.query.finish("query", &[Cause::OutputTable], faults);
+        let never = [Cause::NodeTable, Cause::OutputTable];
+        self.host.finish("C call", &never, faults);
         let least = self.asked.iter().min().copied().unwrap_or(0);
         println!(
             "query: {} answers in tables of the exact lengths; largest finished forest {}; each literal 0 to 130 at least {least} times",

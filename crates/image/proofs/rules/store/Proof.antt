@@ -5,7 +5,7 @@ use mathlib.Core.List.{List}
 use Prim.Native.Nat.{ℕ, _+_, _*_, _%_, _^_, _<_}
 use lib.ListN.{length, length-set}
 use Rattle.literals.specs.declared.LiteralSet.{LiteralSet}
-use Rattle.literals.specs.Sets.{choose}
+use Rattle.lists.specs.Lists.{choose}
 use Rattle.literals.specs.inside.Words.{setOf}
 use Rattle.literals.proofs.Words.{shifted-one}
 use Rattle.program.specs.Program.{Rule, strict, defeasible}

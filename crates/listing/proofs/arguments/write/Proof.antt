@@ -1,7 +1,9 @@
 -- `arguments::write` meets its contract: the arguments of the masks that are left are left to be written.
 use Prim.Native.Nat.{_≤_, _-_}
-use Rattle.listing.specs.inside.Listing.{listIn}
-use Rattle.listing.proofs.Listings.{listFrom, list-all, Writing, writing-all, list-room, list-more, list-written}
+use Rattle.listing.specs.inside.Listing.{freshIn, listIn}
+use Rattle.lists.proofs.Stores.{Writing, writing-all}
+use Rattle.listing.proofs.Picks.{members-room, members-more, members-written}
+use Rattle.listing.proofs.Listings.{listFrom, list-all}
 use native.Mathlib.Omega.{arith}
 use Rattle.listing.proofs.arguments.write.Statement.{statement}
 use Rattle.listing.proofs.arguments.write.Tie as tie
@@ -39,7 +41,8 @@ write-set-requires c κs =
     let s = c .before .before .before .before .before .before .before in
     let l = c .before .before .before .loop in
     let end = c .before .before .before .before .mask-count in (
-      list-room (s .args .closures .now) (s .args .bits) (end .result) _ _ (l .at) (l .mask) (l .inv .1) _ (omega arith)
+      members-room (freshIn (s .args .closures .now) (s .args .bits)) (end .result) _ _ _ (l .at) (l .mask) (l .inv .1) _
+          (omega arith)
           (c .fresh .ensures) (s .pre .1),
       omega (arith, end .ensures .1),
     )
@@ -56,7 +59,8 @@ loop-again c =
     let l = c .before .before .before .before .before .before .loop in
     let end = c .before .before .before .before .before .before .before .mask-count in (
       omega arith,
-      list-more (s .args .closures .now) (s .args .bits) (end .result) _ _ (l .at) (l .mask) (l .inv .1) _ (omega arith)
+      members-more (freshIn (s .args .closures .now) (s .args .bits)) (end .result) _ _ _ (l .at) (l .mask) (l .inv .1) _
+          (omega arith)
           (c .before .before .before .fresh .ensures) _ _ (c .before .before .write-set .kept .0)
           (c .before .before .write-set .ensures),
     )
@@ -69,7 +73,7 @@ returns c =
     let s = c .before .before .before .before .before in
     let l = c .before .loop in
     let end = c .before .before .mask-count in
-    list-written (s .args .closures .now) (s .args .bits) (end .result) _ _ (l .at) (l .mask) (l .inv .1) (omega arith)
+    members-written (freshIn (s .args .closures .now) (s .args .bits)) (end .result) _ _ _ (l .at) (l .mask) (l .inv .1) (omega arith)
 
 pub write-spec : {M : Type 1} → statement M
 write-spec =

@@ -6,7 +6,7 @@ use lib.ListN.{length, length-append}
 use Rattle.literals.specs.inside.Words.{setOf}
 use Rattle.listing.specs.inside.Listing.{membersFrom}
 use Rattle.listing.proofs.Picks.{members-words}
-use Rattle.listing.proofs.Listings.{written-append}
+use Rattle.lists.proofs.Stores.{written-append}
 use native.Mathlib.Omega.{arith}
 use borrow.Author.Needs.{needs}
 use Rattle.listing.proofs.arguments.write_set.Statement.{statement}

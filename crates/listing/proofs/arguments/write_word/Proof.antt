@@ -7,7 +7,7 @@ use Rattle.literals.specs.Sets.{minus}
 use Rattle.literals.proofs.Members.{minus-less}
 use Rattle.listing.specs.inside.Listing.{membersFrom}
 use Rattle.listing.proofs.Picks.{members-none, members-lowest}
-use Rattle.listing.proofs.Listings.{Writing, writing-all, writing-one, writing-none}
+use Rattle.lists.proofs.Stores.{Writing, writing-all, writing-one, writing-none}
 use native.Mathlib.Omega.{arith}
 use Rattle.listing.proofs.arguments.write_word.Statement.{statement}
 use Rattle.listing.proofs.arguments.write_word.Tie as tie

@@ -1,0 +1,2 @@
+-- What the proofs hold programs to: nothing here has to be believed.
+pub mod Wellformed

@@ -1,0 +1,3 @@
+-- What the contracts of private steps are stated in.
+pub mod Stores
+pub mod Numbering
