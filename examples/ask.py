@@ -12,6 +12,7 @@ import sys
 
 # As include/foqtirel.h has them.
 MOST_IMAGE = 1836
+MOST_RULES = 96
 MOST_NODES = 4096
 ARGUMENTS = 4096
 ANSWERS = {1: "YES", 2: "NO", 3: "UNDECIDED", 4: "UNKNOWN", 5: "UNFINISHED"}
@@ -49,9 +50,10 @@ class Foqtirel:
         asked = (ctypes.c_uint32, ctypes.c_uint32)
         arguments = (ctypes.POINTER(ctypes.c_uint32), ctypes.c_size_t)
         nodes = (ctypes.POINTER(Node), ctypes.c_size_t)
-        out = (ctypes.POINTER(ctypes.c_uint8), ctypes.c_size_t)
+        out = numbers = (ctypes.POINTER(ctypes.c_uint8), ctypes.c_size_t)
         self._check = declared(library.foqtirel_check, ctypes.c_uint64, image)
-        self._file = declared(library.foqtirel_file, ctypes.c_uint64, image + out)
+        self._file = declared(library.foqtirel_file, ctypes.c_uint64, image + out + numbers)
+        self._unfile = declared(library.foqtirel_unfile, ctypes.c_uint64, image + numbers + out)
         self._list = declared(library.foqtirel_list, ctypes.c_uint64, image + arguments)
         self._trees = declared(library.foqtirel_trees, ctypes.c_uint64, image + asked + arguments + nodes)
         self._query = declared(library.foqtirel_query, ctypes.c_uint32, image + asked)
@@ -60,9 +62,16 @@ class Foqtirel:
         granted(self._check(image, len(image)))
 
     def file(self, image):
-        """The filed form: the same bytes for the same program, in whatever order it was typed."""
-        table = (ctypes.c_uint8 * len(image))()
-        length = granted(self._file(image, len(image), table, len(table)))
+        """The filed form, the same bytes for the same program in whatever order it was typed, and the order: a table with
+        the old number of each rule."""
+        table, numbers = (ctypes.c_uint8 * len(image))(), (ctypes.c_uint8 * MOST_RULES)()
+        length = granted(self._file(image, len(image), table, len(table), numbers, len(numbers)))
+        return bytes(table[:length]), numbers
+
+    def unfile(self, form, numbers):
+        """The image that was filed."""
+        table = (ctypes.c_uint8 * len(form))()
+        length = granted(self._unfile(form, len(form), numbers, len(numbers), table, len(table)))
         return bytes(table[:length])
 
     def list(self, image):
@@ -121,13 +130,14 @@ def told(literal, arguments, nodes):
 
 
 def ask(library, image, literal, budget):
-    """All five calls. Raises Refused."""
+    """All six calls. Raises Refused."""
     foqtirel = Foqtirel(library)
     foqtirel.check(image)
     arguments = foqtirel.list(image)
     answer, count, nodes = foqtirel.trees(image, literal, budget)
-    for form in (image, foqtirel.file(image)):
-        assert foqtirel.query(form, literal, budget) == (answer, count)
+    form, numbers = foqtirel.file(image)
+    assert foqtirel.unfile(form, numbers) == image
+    assert foqtirel.query(image, literal, budget) == foqtirel.query(form, literal, budget) == (answer, count)
     lines = [f"arguments {len(arguments)}"]
     if answer not in WITHOUT_TREES:
         lines += told(literal, arguments, nodes)

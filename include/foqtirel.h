@@ -1,11 +1,11 @@
 /*
- * Foqtirel: checks the program of an image, writes its filed form, lists its arguments, and says whether it warrants a
- * literal, with the literal's dialectical trees or without.
+ * Foqtirel: checks the program of an image, writes its filed form and goes back from it, lists its arguments, and says
+ * whether it warrants a literal, with the literal's dialectical trees or without.
  *
  * Link with libfoqtirel.a, which `rt staticlib foqtirel` writes to target/staticlib/, for x86-64 and the System V calling
  * convention. It needs nothing else but the memory functions of a C library: memset, memcpy, memmove, memcmp.
  *
- * Its code is position independent, so that a shared library can be made of it, which offers the five calls:
+ * Its code is position independent, so that a shared library can be made of it, which offers the six calls:
  *
  *     cc -shared -Wl,--whole-archive target/staticlib/libfoqtirel.a -Wl,--no-whole-archive -o target/libfoqtirel.so
  *
@@ -24,6 +24,9 @@ extern "C" {
 /* The least and the greatest image in bytes. Others are refused with FOQTIREL_IMAGE_LENGTH. */
 #define FOQTIREL_LEAST_IMAGE 12u
 #define FOQTIREL_MOST_IMAGE 1836u
+
+/* The most rules of an image. */
+#define FOQTIREL_MOST_RULES 96u
 
 /* A literal is 2 * atom + sign, sign 1 for the strongly negated one, and below this. */
 #define FOQTIREL_LITERALS 128u
@@ -67,16 +70,16 @@ struct foqtirel_node {
  * FOQTIREL_STACK_MOST bytes are enough for every call, image, literal and budget. FOQTIREL_STACK_12_RULES bytes are enough
  * for a program with at most 12 defeasible rules, as long as no line of the literal's trees has more than
  * FOQTIREL_STACK_12_LINE arguments; a budget of no more than that makes sure of it. One argument more on a line takes at
- * most FOQTIREL_STACK_LEVEL bytes; the lines are counted in the figures above. foqtirel_check, foqtirel_file and
- * foqtirel_list grow no trees: FOQTIREL_STACK_CHECK bytes are enough for every check, FOQTIREL_STACK_FILE bytes for every
- * filing, FOQTIREL_STACK_LIST bytes for every list, and FOQTIREL_STACK_LIST_12 bytes for one of a program with at most 12
- * defeasible rules.
+ * most FOQTIREL_STACK_LEVEL bytes; the lines are counted in the figures above. foqtirel_check, foqtirel_file,
+ * foqtirel_unfile and foqtirel_list grow no trees: FOQTIREL_STACK_CHECK bytes are enough for every check,
+ * FOQTIREL_STACK_FILE bytes for every filing and every way back, FOQTIREL_STACK_LIST bytes for every list, and
+ * FOQTIREL_STACK_LIST_12 bytes for one of a program with at most 12 defeasible rules.
  *
  * These figures are measured, not proved: the tests run the calls on threads with such stacks. For programs with up to 12
  * defeasible rules and with 16 of them they found enough, with short lines: 76 and 1,100 KiB for foqtirel_list, 132 and
  * 1,156 KiB for foqtirel_trees, 196 and 1,220 KiB for foqtirel_query; and 252 bytes for each argument more on a line. For
- * foqtirel_check and foqtirel_file 16 KiB are enough, and glibc makes no thread with less. A smaller stack is overrun, as
- * it would be by any C function.
+ * foqtirel_check, foqtirel_file and foqtirel_unfile 16 KiB are enough, and glibc makes no thread with less. A smaller stack
+ * is overrun, as it would be by any C function.
  */
 #define FOQTIREL_STACK_MOST (4u * 1024u * 1024u)
 #define FOQTIREL_STACK_12_RULES (512u * 1024u)
@@ -116,7 +119,9 @@ struct foqtirel_node {
 #define FOQTIREL_BUDGET 21u                 /* trees, query: the budget is over 4,096 */
 #define FOQTIREL_NODE_TABLE 22u             /* trees: the node table has fewer entries than the budget */
 #define FOQTIREL_ARGUMENT_TABLE 23u         /* list, trees, query: more arguments than the argument table has entries */
-#define FOQTIREL_OUTPUT_TABLE 24u           /* file: the byte table is shorter than the image */
+#define FOQTIREL_OUTPUT_TABLE 24u           /* file, unfile: the byte table is shorter than the image */
+#define FOQTIREL_NUMBER_TABLE 25u           /* file, unfile: the number table has fewer entries than the image has rules */
+#define FOQTIREL_MISFILED 26u               /* unfile: a number out of range or used twice, or an image not in filed form */
 
 /*
  * A result of foqtirel_query taken apart. A refused result has code 0, so a refusal is never taken for an answer. A number
@@ -127,10 +132,10 @@ struct foqtirel_node {
 #define FOQTIREL_NODES(result) (FOQTIREL_32_BITS(result) & 65535u)
 
 /*
- * A result of foqtirel_check, foqtirel_file, foqtirel_list or foqtirel_trees taken apart: whether it is a refusal; of a
- * refusal its number and place; where it is none, of a filing the number of bytes, of a list the number of arguments, of
- * trees the answer's code and its number of nodes. Again a refused result has code 0. A number of 32 bits, such as a result
- * of foqtirel_query, does not compile here: that call has its refusals elsewhere.
+ * A result of foqtirel_check, foqtirel_file, foqtirel_unfile, foqtirel_list or foqtirel_trees taken apart: whether it is a
+ * refusal; of a refusal its number and place; where it is none, of a filing or a way back the number of bytes, of a list
+ * the number of arguments, of trees the answer's code and its number of nodes. Again a refused result has code 0. A number
+ * of 32 bits, such as a result of foqtirel_query, does not compile here: that call has its refusals elsewhere.
  */
 #define FOQTIREL_REFUSED64(result) (FOQTIREL_64_BITS(result) >> 32 != 0u)
 #define FOQTIREL_NUMBER64(result) ((uint32_t)(FOQTIREL_64_BITS(result) >> 32))
@@ -146,13 +151,14 @@ struct foqtirel_node {
 #define FOQTIREL_64_BITS(result) ((uint64_t)(result) + 0u * sizeof(char[sizeof(result) == sizeof(uint64_t) ? 1 : -1]))
 
 /*
- * Of all five calls:
+ * Of all six calls:
  *
  *   image, length   the image's bytes. They stay the caller's, are only read, and have to stay as they are during the call.
  *                   Any bytes will do: what isn't a sound image is refused. NULL with length 0 is an empty image, refused
  *                   with FOQTIREL_IMAGE_LENGTH. With any other length, image has to point to that many readable bytes.
- *   a table, room   what a call writes to: a table of that many entries, with any contents. NULL with 0 entries is a table
- *                   without entries. Tables must not overlap each other or the image.
+ *   a table, room   what a call writes to, and the numbers that foqtirel_unfile reads: a table of that many entries, with
+ *                   any contents. NULL with 0 entries is a table without entries. Tables must not overlap each other or the
+ *                   image.
  *
  * Keep all 64 bits of a result that has them: the lower half of a refusal is its place, often 0, so that in an int it would
  * read as success.
@@ -160,9 +166,10 @@ struct foqtirel_node {
  * A refusal leaves every table as it was. After any other result the entries that the call is said to write have the
  * contents it is said to write, and all others keep theirs.
  *
- * The result, and what is written, depend on the parameters and the image's bytes alone. A call keeps nothing, allocates
- * nothing, has no global data and takes no locks, so it may run on any number of threads at once, on one image too, each
- * with tables of its own, and in a signal handler with enough stack. It ends on every input.
+ * The result, and what is written, depend on the parameters, the image's bytes and the numbers that foqtirel_unfile reads
+ * alone. A call keeps nothing, allocates nothing, has no global data and takes no locks, so it may run on any number of
+ * threads at once, on one image too, each with tables of its own, and in a signal handler with enough stack. It ends on
+ * every input.
  */
 
 /*
@@ -182,13 +189,42 @@ uint64_t foqtirel_check(const uint8_t *image, size_t length);
  * that answers gives the same refusal or answer and number of nodes for both, where the tables have the same lengths. Which
  * rule has which bit in a mask may differ, and with it the order of lists and nodes.
  *
- *   out, room   the byte table. The filed form is written to its front and is as long as the image; the bytes past it stay
- *               as they were. If the table is shorter than the image, the call is refused with FOQTIREL_OUTPUT_TABLE;
- *               FOQTIREL_MOST_IMAGE bytes are always enough. It may not be the image itself.
+ *   out, room              the byte table. The filed form is written to its front and is as long as the image; the bytes
+ *                          past it stay as they were. If the table is shorter than the image, the call is refused with
+ *                          FOQTIREL_OUTPUT_TABLE; FOQTIREL_MOST_IMAGE bytes are always enough. It may not be the image
+ *                          itself.
+ *   numbers, number_room   the number table, of bytes. The number that each rule of the filed form has in the image is
+ *                          written to its front, in the order of the filed form; the entries past the rule count stay as
+ *                          they were. The rule count is image[2] + 256 * image[3]. If there are fewer entries than rules,
+ *                          the call is refused with FOQTIREL_NUMBER_TABLE; FOQTIREL_MOST_RULES entries are always enough.
+ *                          Note that foqtirel_unfile has its two tables the other way round: what it reads comes first.
  *
  * Returns the length of the filed form, or a refusal as foqtirel_check does. See FOQTIREL_REFUSED64 and FOQTIREL_LENGTH64.
  */
-uint64_t foqtirel_file(const uint8_t *image, size_t length, uint8_t *out, size_t room);
+uint64_t foqtirel_file(const uint8_t *image, size_t length, uint8_t *out, size_t room, uint8_t *numbers,
+                       size_t number_room);
+
+/*
+ * Writes a filed image with its rules in the order in which they were typed: each rule gets its old number back, and the
+ * pairs name the rules by these and ascend. For every sound image, foqtirel_file and then this call give back its exact
+ * bytes.
+ *
+ *   numbers, count   the number table as foqtirel_file leaves it: the old number of each rule of the image. Like the image
+ *                    it is only read, and only as many of its entries as the image has rules; those past them have no
+ *                    effect. If there are fewer, the call is refused with FOQTIREL_NUMBER_TABLE.
+ *   out, room        the byte table. What is written to its front is as long as the image; the bytes past it stay as they
+ *                    were. If the table is shorter than the image, the call is refused with FOQTIREL_OUTPUT_TABLE. It may
+ *                    not be the image itself.
+ *
+ * If a number among those read is not below the rule count or is used twice, or if the image is not its own filed form, the
+ * call is refused with FOQTIREL_MISFILED. Any order of the numbers below the rule count will do, so keep them with their
+ * form: those of another image with as many rules give a sound image in a wrong order.
+ *
+ * Returns the length of what was written, or a refusal as foqtirel_check does. See FOQTIREL_REFUSED64 and
+ * FOQTIREL_LENGTH64.
+ */
+uint64_t foqtirel_unfile(const uint8_t *image, size_t length, const uint8_t *numbers, size_t count, uint8_t *out,
+                         size_t room);
 
 /*
  * Lists the arguments of the program in an image.

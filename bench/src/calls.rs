@@ -5,11 +5,14 @@ use foqtirel_tests::reference::{self, host_number, Analysis, NodeEntry, Refusal,
 
 const BUDGET: u32 = MOST_NODES as u32;
 const MOST_IMAGE: usize = 1836;
+const MOST_RULES: usize = 96;
 
-#[derive(Clone, Copy)]
+#[derive(Clone, Copy, PartialEq)]
 pub enum Call {
     Check,
     File,
+    /// Of the image's filed form.
+    Unfile,
     List,
     /// With lent tables.
     Query,
@@ -20,9 +23,10 @@ pub enum Call {
 }
 
 impl Call {
-    pub const ALL: [Call; 6] = [
+    pub const ALL: [Call; 7] = [
         Call::Check,
         Call::File,
+        Call::Unfile,
         Call::List,
         Call::Query,
         Call::Host,
@@ -33,6 +37,7 @@ impl Call {
         match self {
             Call::Check => "check",
             Call::File => "file",
+            Call::Unfile => "unfile",
             Call::List => "list",
             Call::Query => "query",
             Call::Host => "C call",
@@ -44,6 +49,9 @@ impl Call {
 /// What a caller lends.
 pub struct Tables {
     bytes: Vec<u8>,
+    numbers: Vec<u8>,
+    /// Read, for the way back.
+    form: Vec<u8>,
     arguments: Vec<u32>,
     nodes: Vec<Node>,
     entries: Vec<NodeEntry>,
@@ -53,10 +61,23 @@ impl Tables {
     pub fn new() -> Tables {
         Tables {
             bytes: vec![0; MOST_IMAGE],
+            numbers: vec![0; MOST_RULES],
+            form: Vec::new(),
             arguments: vec![0; MOST_NODES],
             nodes: vec![Node::default(); MOST_NODES],
             entries: vec![NodeEntry::default(); MOST_NODES],
         }
+    }
+
+    /// With the filed form and the old numbers for the way back, which are no part of that call.
+    pub fn for_call(call: Call, image: &[u8]) -> Tables {
+        let mut tables = Tables::new();
+        if call == Call::Unfile {
+            tables.form = image.to_vec();
+            let filed = reference::file(image, &mut tables.form, &mut tables.numbers);
+            filed.expect("a sound image");
+        }
+        tables
     }
 }
 
@@ -64,7 +85,8 @@ pub fn proved(call: Call, image: &[u8], literal: u32, lent: &mut Tables) -> u64 
     let (arguments, nodes) = (&mut lent.arguments, &mut lent.nodes);
     match call {
         Call::Check => library::check(image) >> 32,
-        Call::File => library::file(image, &mut lent.bytes),
+        Call::File => library::file(image, &mut lent.bytes, &mut lent.numbers),
+        Call::Unfile => library::unfile(&lent.form, &lent.numbers, &mut lent.bytes),
         Call::List => library::list(image, arguments),
         Call::Query => library::trees(image, literal, BUDGET, arguments, nodes),
         Call::Host => library::query(image, literal, BUDGET).into(),
@@ -79,9 +101,10 @@ pub fn plain(call: Call, image: &[u8], literal: u32, lent: &mut Tables) -> u64 {
     let (arguments, entries) = (&mut lent.arguments, &mut lent.entries);
     match call {
         Call::Check => reference::check(image).map_or_else(number, |()| 0),
-        Call::File => {
-            let length = reference::file(image, &mut lent.bytes);
-            length.map_or_else(number, |length| length as u64)
+        Call::File => length(reference::file(image, &mut lent.bytes, &mut lent.numbers)),
+        Call::Unfile => {
+            let written = reference::unfile(&lent.form, &lent.numbers, &mut lent.bytes);
+            length(written)
         }
         Call::List => reference::list(image, arguments).map_or_else(number, |count| count as u64),
         Call::Query => {
@@ -94,6 +117,10 @@ pub fn plain(call: Call, image: &[u8], literal: u32, lent: &mut Tables) -> u64 {
             Err(refusal) => sum(image, |_| number(refusal)),
         },
     }
+}
+
+fn length(written: Result<usize, Refusal>) -> u64 {
+    written.map_or_else(number, |length| length as u64)
 }
 
 fn number(refusal: Refusal) -> u64 {

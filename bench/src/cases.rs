@@ -69,7 +69,7 @@ pub fn all() -> Vec<Case> {
     cases
 }
 
-/// Images that are hard to file: the longest one, as it is and in the reverse of its filed order, and 96 rules that only
+/// Images that are hard to file and to put back: the longest one, as it is and in the reverse of its filed order, and 96 rules that only
 /// their last byte tells apart.
 fn to_file() -> [Case; 3] {
     let longest = vectors::image(LONGEST);
@@ -83,6 +83,6 @@ fn to_file() -> [Case; 3] {
         name: name.into(),
         image,
         literal: 0,
-        calls: &[Call::Check, Call::File],
+        calls: &[Call::Check, Call::File, Call::Unfile],
     })
 }

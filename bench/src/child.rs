@@ -44,7 +44,7 @@ pub fn once(arguments: &[String]) {
     let side = Side::ALL.into_iter().find(|s| s.name() == side);
     let call = Call::ALL.into_iter().find(|c| c.name() == call);
     let call = call.expect("a call");
-    let mut lent = Tables::new();
+    let mut lent = Tables::for_call(call, &image);
     let result = match side.expect("a side") {
         Side::Proved => proved(call, &image, literal, &mut lent),
         Side::Plain => plain(call, &image, literal, &mut lent),

@@ -52,7 +52,8 @@ fn end_of_table() {
 }
 
 fn row(case: &Case, call: Call) -> Row {
-    let (mut lent, mut other) = (Tables::new(), Tables::new());
+    let lent = || Tables::for_call(call, &case.image);
+    let (mut lent, mut other) = (lent(), lent());
     let ours = || proved(call, &case.image, case.literal, &mut lent);
     let theirs = || plain(call, &case.image, case.literal, &mut other);
     let alone = |side| ends_within(case, call, side, LIMIT);
@@ -116,20 +117,21 @@ fn counted(case: &Case, call: Call) -> Row {
     }
 }
 
-/// What filing an image takes, and what checking it does.
+/// What filing an image and putting it back take, and what checking it does.
 struct Filing<'a> {
     image: &'a str,
     check: u64,
     file: u64,
+    unfile: u64,
 }
 
 impl Filing<'_> {
-    fn times(&self) -> f64 {
-        self.file as f64 / self.check as f64
+    fn times(&self, count: u64) -> f64 {
+        count as f64 / self.check as f64
     }
 }
 
-/// The images for which both were counted.
+/// The images for which all three were counted.
 fn filings(rows: &[Row]) -> impl Iterator<Item = Filing<'_>> {
     let count = |image: &str, call: Call| {
         let row = |row: &&Row| row.image == image && row.call == call.name();
@@ -141,19 +143,26 @@ fn filings(rows: &[Row]) -> impl Iterator<Item = Filing<'_>> {
             image: &row.image,
             check: count(&row.image, Call::Check)?,
             file: row.instructions?,
+            unfile: count(&row.image, Call::Unfile)?,
         })
     })
 }
 
-/// Prints how many times a check's instructions filing takes. The check is a part of it.
+/// Prints how many times a check's instructions filing takes, and the way back. The check is a part of both.
 pub fn filed(rows: &[Row]) {
     if filings(rows).next().is_none() {
         return;
     }
-    println!("image               check instr.   file instr.    ratio");
+    println!("image               check instr.   file instr.    ratio unfile instr.    ratio");
     for filing in filings(rows) {
-        let Filing { image, check, file } = filing;
-        println!("{image:<18} {check:>13} {file:>13} {:>8.2}", filing.times());
+        let Filing {
+            image,
+            check,
+            file,
+            unfile,
+        } = filing;
+        let [there, back] = [file, unfile].map(|count| filing.times(count));
+        println!("{image:<18} {check:>13} {file:>13} {there:>8.2} {unfile:>13} {back:>8.2}");
     }
     println!();
 }
@@ -184,7 +193,7 @@ fn typical_target(rows: &[Row], call: Call) {
 
 fn file_target(rows: &[Row]) {
     if let Some(filing) = filings(rows).find(|filing| filing.image == cases::LONGEST) {
-        let times = filing.times();
+        let times = filing.times(filing.file);
         println!(
             "file against check on the longest image: {times:.2} times, target {MOST_FILING}: {}",
             word(times <= MOST_FILING)

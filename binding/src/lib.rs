@@ -1,7 +1,7 @@
 //! The calls of `include/foqtirel.h` for Rust: safe functions over slices, and their results taken apart.
 //!
-//! Each function returns the number that the C call returns: 64 bits from `check`, `file`, `list` and `trees`, which
-//! [`granted`] and [`answered_with_trees`] take apart, and 32 bits from `query`, which are for [`answered`].
+//! Each function returns the number that the C call returns: 64 bits from `check`, `file`, `unfile`, `list` and `trees`,
+//! which [`granted`] and [`answered_with_trees`] take apart, and 32 bits from `query`, which are for [`answered`].
 
 pub mod raw;
 
@@ -52,7 +52,8 @@ impl Answer {
     }
 }
 
-/// The number in a result of `check`, `file`, `list` or `trees`. A refusal has its own in the upper half, which is 0 otherwise.
+/// The number in a result of `check`, `file`, `unfile`, `list` or `trees`. A refusal has its own in the upper half, which is
+/// 0 otherwise.
 pub fn granted(result: u64) -> Result<u32, Refusal> {
     match (result >> 32) as u32 {
         0 => Ok(result as u32),
@@ -82,11 +83,27 @@ pub fn check(image: &[u8]) -> u64 {
     unsafe { raw::foqtirel_check(image.as_ptr(), image.len()) }
 }
 
-/// The length of the filed form, or number × 2^32 + place.
-pub fn file(image: &[u8], out: &mut [u8]) -> u64 {
-    let (table, room) = (out.as_mut_ptr(), out.len());
+/// The length of the filed form, or number × 2^32 + place. The old number of each filed rule goes to `numbers`.
+pub fn file(image: &[u8], out: &mut [u8], numbers: &mut [u8]) -> u64 {
     // SAFETY: the pointers and lengths are the slices' own.
-    unsafe { raw::foqtirel_file(image.as_ptr(), image.len(), table, room) }
+    unsafe {
+        raw::foqtirel_file(
+            image.as_ptr(),
+            image.len(),
+            out.as_mut_ptr(),
+            out.len(),
+            numbers.as_mut_ptr(),
+            numbers.len(),
+        )
+    }
+}
+
+/// The length of the filed image in old order, or number × 2^32 + place.
+pub fn unfile(image: &[u8], numbers: &[u8], out: &mut [u8]) -> u64 {
+    let (table, room) = (out.as_mut_ptr(), out.len());
+    let (entries, count) = (numbers.as_ptr(), numbers.len());
+    // SAFETY: the pointers and lengths are the slices' own.
+    unsafe { raw::foqtirel_unfile(image.as_ptr(), image.len(), entries, count, table, room) }
 }
 
 /// The number of arguments, or number × 2^32 + place.
@@ -162,12 +179,18 @@ mod tests {
         let image = [1, 0, 1, 0, 0, 0, 0, 0, 16, 0, 2, 0, 18, 0, 0, 0, 0, 1];
         let mut arguments = [7; 2];
         let mut nodes = [Node::default(); 2];
-        let mut out = [7; 20];
-        assert_eq!(granted(check(&image)), Ok(0));
-        assert_eq!(granted(file(&image, &mut out)), Ok(18));
+        let (mut out, mut numbers) = ([7; 20], [7; 2]);
+        let number = |result: u64| granted(result).map_err(|refusal| refusal.number);
+        assert_eq!(number(check(&image)), Ok(0));
+        assert_eq!(number(file(&image, &mut out, &mut numbers)), Ok(18));
         assert_eq!((&out[..18], &out[18..]), (&image[..], &[7, 7][..]));
-        let short = granted(file(&image, &mut out[..17]));
-        assert_eq!(short.map_err(|refusal| refusal.number), Err(24));
+        assert_eq!(numbers, [0, 7]);
+        assert_eq!(number(file(&image, &mut out[..17], &mut numbers)), Err(24));
+        assert_eq!(number(file(&image, &mut out, &mut [])), Err(25));
+        let mut typed = [7; 20];
+        assert_eq!(number(unfile(&image, &numbers, &mut typed)), Ok(18));
+        assert_eq!(typed, out);
+        assert_eq!(number(unfile(&image, &[1], &mut typed)), Err(26));
         assert_eq!(granted(list(&image, &mut arguments)), Ok(1));
         assert_eq!(arguments, [1, 7]);
         let answer = Answer { code: 2, nodes: 1 };

@@ -1,9 +1,10 @@
 //! The C calls as `include/foqtirel.h` declares them, for tables that are not initialised and for null pointers.
 //!
 //! # Safety
-//! Of each call: a pointer goes with its number of bytes or entries and may be null where that is 0. The image is
-//! readable and stays as it is during the call, the tables are writable and apart from it and from each other. They
-//! may hold anything, and an entry that the result doesn't name is as it was afterwards.
+//! Of each call: a pointer goes with its number of bytes or entries and may be null where that is 0. The image, and a
+//! table that a call only reads, are readable and stay as they are during the call; the other tables are writable and
+//! apart from these and from each other. They may hold anything, and an entry that the result doesn't name is as it was
+//! afterwards.
 
 use crate::Node;
 
@@ -19,7 +20,28 @@ extern "C" {
     ///
     /// # Safety
     /// See [the module](self).
-    pub fn foqtirel_file(image: *const u8, length: usize, out: *mut u8, room: usize) -> u64;
+    pub fn foqtirel_file(
+        image: *const u8,
+        length: usize,
+        out: *mut u8,
+        room: usize,
+        numbers: *mut u8,
+        number_room: usize,
+    ) -> u64;
+
+    /// The length of the image in old order, or number × 2^32 + place. The numbers are only read, and of them as many as the
+    /// image has rules.
+    ///
+    /// # Safety
+    /// See [the module](self).
+    pub fn foqtirel_unfile(
+        image: *const u8,
+        length: usize,
+        numbers: *const u8,
+        count: usize,
+        out: *mut u8,
+        room: usize,
+    ) -> u64;
 
     /// The number of arguments, or number × 2^32 + place.
     ///

@@ -10,4 +10,5 @@ pub mod header;
 #[cfg(feature = "library")]
 mod nodes;
 pub mod reference;
+pub mod sides;
 pub mod vectors;

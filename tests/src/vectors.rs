@@ -3,6 +3,7 @@
 
 use std::fs;
 use std::path::{Path, PathBuf};
+use std::str::FromStr;
 
 use crate::generator::Verdict;
 use crate::reference::NodeEntry;
@@ -10,6 +11,9 @@ use crate::reference::NodeEntry;
 /// Vectors and literals with exactly as many nodes as the greatest budget, with one more, and with
 /// the longest line.
 pub const EXTREMES: [(&str, u32); 3] = [("n4096", 20), ("n4097", 28), ("deep180", 22)];
+
+/// The most rules that an image has.
+const MOST_RULES: usize = 96;
 
 /// The change requests that have vectors of what `advise` prints.
 pub const REQUESTS: [&str; 1] = ["c11"];
@@ -66,38 +70,111 @@ pub fn of_request(name: &str) -> Vec<(Vec<u8>, String)> {
     lines_of(name).into_iter().map(advised).collect()
 }
 
-/// An image, the length of the byte table that is lent for it, and the filed form or the refusal.
+/// An image, the lengths of the byte table and of the number table that are lent for it, and what filing comes to.
 pub struct Filing {
     pub image: Vec<u8>,
+    pub rooms: (usize, usize),
+    pub outcome: Result<Filed, Verdict>,
+}
+
+/// A filed form, with the old numbers of its rules where the vector has them.
+pub struct Filed {
+    pub form: Vec<u8>,
+    pub numbers: Option<Vec<u8>>,
+}
+
+/// An image with a table of old numbers, the length of the byte table that is lent, and the image in old order or the
+/// refusal.
+pub struct Unfiling {
+    pub image: Vec<u8>,
+    pub numbers: Vec<u8>,
     pub room: usize,
     pub outcome: Result<Vec<u8>, Verdict>,
 }
 
-/// The vectors of request C-12.
+/// The vectors of request C-12, which name no number table, with one that is always long enough.
 pub fn filings() -> Vec<Filing> {
-    lines_of("c12")
-        .iter()
-        .map(|(lent, outcome)| {
-            let (image, room) = lent.split_once(' ').expect("an image and a room");
-            Filing {
-                image: bytes(image),
-                room: room.parse().expect("a room"),
-                outcome: filing_outcome(outcome),
-            }
+    let filing = |(lent, outcome): &(String, String)| {
+        let (image, room) = lent.split_once(' ').expect("an image and a room");
+        Filing {
+            image: bytes(image),
+            rooms: (number(room), MOST_RULES),
+            outcome: filing_outcome(outcome),
+        }
+    };
+    lines_of("c12").iter().map(filing).collect()
+}
+
+/// The vectors of request C-16 for filing.
+pub fn numbered_filings() -> Vec<Filing> {
+    let filing = |([image, room, number_room], outcome): ([String; 3], String)| Filing {
+        image: bytes(&image),
+        rooms: (number(&room), number(&number_room)),
+        outcome: filing_outcome(&outcome),
+    };
+    of_call("file").into_iter().map(filing).collect()
+}
+
+/// The vectors of request C-16 for the way back.
+pub fn unfilings() -> Vec<Unfiling> {
+    let unfiling = |([image, numbers, room], outcome): ([String; 3], String)| Unfiling {
+        image: bytes(&image),
+        numbers: numbers.split(',').map(number).collect(),
+        room: number(&room),
+        outcome: image_outcome(&outcome),
+    };
+    of_call("back").into_iter().map(unfiling).collect()
+}
+
+/// The lines of request C-16 for one of its calls: three words that it takes, and the text after the first bar.
+fn of_call(call: &str) -> Vec<([String; 3], String)> {
+    let lines = lines_of("c16").into_iter();
+    lines
+        .filter_map(|(lent, outcome)| {
+            let (name, words) = lent.split_once(' ').expect("a call");
+            let words: Vec<String> = words.split(' ').map(str::to_string).collect();
+            let words = words.try_into().expect("three words");
+            (name == call).then_some((words, outcome))
         })
         .collect()
 }
 
-fn filing_outcome(text: &str) -> Result<Vec<u8>, Verdict> {
-    let number = |text: &str| text.parse::<u32>().expect("a number");
+fn filing_outcome(text: &str) -> Result<Filed, Verdict> {
+    let (length, rest) = granted(text)?;
+    let (form, numbers) = match rest.split_once(" | ") {
+        Some((form, numbers)) => (form, Some(numbers.split(' ').map(number).collect())),
+        None => (rest, None),
+    };
+    Ok(Filed {
+        form: bytes_of_length(form, length),
+        numbers,
+    })
+}
+
+fn image_outcome(text: &str) -> Result<Vec<u8>, Verdict> {
+    let (length, image) = granted(text)?;
+    Ok(bytes_of_length(image, length))
+}
+
+/// A length and what comes after it, or the refusal.
+fn granted(text: &str) -> Result<(usize, &str), Verdict> {
     if let Some(refusal) = text.strip_prefix("refused ") {
         let (cause, place) = refusal.split_once(' ').expect("number and place");
         return Err((number(cause), number(place)));
     }
-    let (length, form) = text.split_once(" | ").expect("a length and a filed form");
-    let form = bytes(form);
-    assert_eq!(number(length) as usize, form.len(), "{text}");
-    Ok(form)
+    let (length, rest) = text.split_once(" | ").expect("a length and more");
+    Ok((number(length), rest))
+}
+
+fn number<Number: FromStr>(text: &str) -> Number {
+    let number = text.parse().ok();
+    number.unwrap_or_else(|| panic!("no number: {text}"))
+}
+
+fn bytes_of_length(hexadecimal: &str, length: usize) -> Vec<u8> {
+    let bytes = bytes(hexadecimal);
+    assert_eq!(bytes.len(), length, "{hexadecimal}");
+    bytes
 }
 
 fn bytes(hexadecimal: &str) -> Vec<u8> {
@@ -114,7 +191,9 @@ pub fn images() -> Vec<Vec<u8>> {
     for request in REQUESTS {
         images.extend(of_request(request).into_iter().map(|(image, _)| image));
     }
-    images.extend(filings().into_iter().map(|filing| filing.image));
+    let filings = filings().into_iter().chain(numbered_filings());
+    images.extend(filings.map(|filing| filing.image));
+    images.extend(unfilings().into_iter().map(|unfiling| unfiling.image));
     images
 }
 

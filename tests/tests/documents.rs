@@ -179,6 +179,7 @@ fn a_command_that_makes_nothing_is_found() {
     assert_found(&[
         ("`rt dev NAME`\n\n    rt check advise && target/bin/advise < tests/vectors/F.img", &[]),
         ("text\n\n    cc examples/host.c target/staticlib/libfoqtirel.a -o target/host\n    target/host", &[]),
+        ("text\n\n    foqtirel file tests/vectors/T.img --numbers target/T.numbers\n    cat target/T.numbers", &[]),
         ("`rt staticlib probe`", &["a.md:1: there is no crate probe"]),
         ("text\n\n    rt staticlib probe", &["a.md:3: there is no crate probe"]),
         ("`target/staticlib/libprobe.a`", &["a.md:1: there is no target/staticlib/libprobe.a"]),

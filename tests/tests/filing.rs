@@ -1,209 +1,73 @@
-//! The filed form of an image, as request C-12 has it: of the reference, and with the feature `library` of the proved calls.
+//! The filed form of an image and its old numbers, as requests C-12 and C-16 have them: of the reference, and with the feature
+//! `library` of the proved calls.
 
 use std::collections::{BTreeMap, BTreeSet};
 
+use foqtirel_tests::fittings::F;
 use foqtirel_tests::generator::accepted::{contested_programs, small_programs};
-use foqtirel_tests::generator::filing::{alike, retyped, CHANGES};
-use foqtirel_tests::generator::late::late;
-use foqtirel_tests::generator::lengths::{greatest, sound_images};
-use foqtirel_tests::generator::{accepted, chained, damaged, Description, Random, MADE_BY_RULE};
-use foqtirel_tests::reference::{self, NodeEntry, Refusal};
-use foqtirel_tests::vectors;
+use foqtirel_tests::generator::filing::{retyped, BY_KEY, CHANGES};
+use foqtirel_tests::generator::lengths::greatest;
+use foqtirel_tests::generator::{chained, Description, Random};
+use foqtirel_tests::reference;
+use foqtirel_tests::sides::{
+    old_numbers, parts, refused, sides, sound, Side, NUMBER_TABLE, OUTPUT_TABLE, REFERENCE,
+};
+use foqtirel_tests::vectors::{filings, numbered_filings, Filed, Filing};
 
 const SEED: u64 = 12;
 const MOST_IMAGE: usize = 1836;
-const OUTPUT_TABLE: u64 = 24 << 32;
+const MOST_RULES: usize = 96;
 /// Budgets beside those around a forest's number of nodes.
 const BUDGETS: [u32; 5] = [0, 1, 2, 4096, 4097];
-
-/// The lengths of an argument table and of a node table.
-type Lengths = (usize, usize);
-
-/// One implementation of the calls. Each returns what its C call does, and `trees` is lent tables of these lengths.
-struct Side {
-    name: &'static str,
-    check: fn(&[u8]) -> u64,
-    file: fn(&[u8], &mut [u8]) -> u64,
-    list: fn(&[u8], &mut [u32]) -> u64,
-    trees: fn(&[u8], u32, u32, Lengths) -> u64,
-    query: fn(&[u8], u32, u32) -> u32,
-    /// How many programs are asked about all their literals.
-    asked: usize,
-}
-
-fn packed(result: Result<usize, Refusal>) -> u64 {
-    result.map_or_else(Refusal::packed, |number| number as u64)
-}
-
-const REFERENCE: Side = Side {
-    name: "reference",
-    check: |image| packed(reference::check(image).map(|()| 0)),
-    file: |image, out| packed(reference::file(image, out)),
-    list: |image, arguments| packed(reference::list(image, arguments)),
-    trees: |image, literal, budget, (room, node_room)| {
-        let (mut arguments, mut nodes) = (vec![0; room], vec![NodeEntry::default(); node_room]);
-        let answer = reference::query(image, literal, budget, &mut arguments, &mut nodes);
-        packed(answer.map(|_| reference::host_number(answer) as usize))
-    },
-    query: reference::host_call,
-    asked: 12,
-};
-
-#[cfg(feature = "library")]
-const LIBRARY: Side = Side {
-    name: "library",
-    check: foqtirel_binding::check,
-    file: foqtirel_binding::file,
-    list: foqtirel_binding::list,
-    trees: |image, literal, budget, (room, node_room)| {
-        let mut nodes = vec![foqtirel_binding::Node::default(); node_room];
-        foqtirel_binding::trees(image, literal, budget, &mut vec![0; room], &mut nodes)
-    },
-    query: foqtirel_binding::query,
-    asked: 400,
-};
-
-fn sides() -> Vec<Side> {
-    vec![
-        REFERENCE,
-        #[cfg(feature = "library")]
-        LIBRARY,
-    ]
-}
-
-/// A byte table with contents of its own; two of them agree in no byte.
-fn lent(room: usize, turned: bool) -> Vec<u8> {
-    let byte = |place: usize| (31 * place + 165) as u8;
-    let bytes = (0..room).map(byte);
-    bytes.map(|b| if turned { !b } else { b }).collect()
-}
-
-impl Side {
-    /// Files into a table of so many bytes, and holds the result and every byte to what is wanted: the form at the front and
-    /// the rest as it was, or a refusal and all as it was.
-    #[track_caller]
-    fn assert_files(&self, image: &[u8], room: usize, wanted: Result<&[u8], u64>) {
-        for turned in [false, true] {
-            let mut out = lent(room, turned);
-            let given = (self.file)(image, &mut out);
-            let mut left = lent(room, turned);
-            let result = match wanted {
-                Ok(form) => {
-                    left[..form.len()].copy_from_slice(form);
-                    form.len() as u64
-                }
-                Err(refusal) => refusal,
-            };
-            let about = || format!("{}: room {room}: {image:02X?}", self.name);
-            assert_eq!(given, result, "{}", about());
-            assert!(out == left, "the table is not as wanted: {}", about());
-        }
-    }
-
-    /// The filed form of a sound image.
-    #[track_caller]
-    fn filed(&self, image: &[u8]) -> Vec<u8> {
-        let mut form = lent(image.len(), false);
-        let length = (self.file)(image, &mut form);
-        assert_eq!(length, image.len() as u64, "{}: {image:02X?}", self.name);
-        form
-    }
-}
 
 fn image(program: &str) -> Vec<u8> {
     Description::parse(program).expect("a program").image()
 }
 
-/// Sound programs of many shapes, the vectors and the longest images.
-fn sound(count: usize) -> Vec<Vec<u8>> {
-    let programs = accepted(SEED, count)
-        .chain(small_programs(SEED, count / 4))
-        .chain(contested_programs(SEED, count / 8, 7))
-        .chain(chained(SEED, count / 4));
-    let mut images = vectors::images();
-    images.extend(programs.map(|case| case.image));
-    images.extend(sound_images());
-    images.push(alike().image());
-    images.retain(|image| reference::check(image).is_ok());
-    images
-}
-
 #[test]
 fn vectors_are_filed_as_written() {
-    let vectors = vectors::filings();
-    assert_eq!(vectors.len(), 40, "vectors of the request");
-    let refused = vectors.iter().filter(|vector| vector.outcome.is_err());
-    assert!(refused.count() >= 10);
-    for side in sides() {
-        for vector in &vectors {
-            let wanted = vector.outcome.as_deref();
-            let wanted =
-                wanted.map_err(|&(number, place)| u64::from(number) << 32 | u64::from(place));
-            side.assert_files(&vector.image, vector.room, wanted);
+    let (forms, numbered) = (filings(), numbered_filings());
+    assert_eq!((forms.len(), numbered.len()), (40, 40), "vectors");
+    let vectors: Vec<Filing> = forms.into_iter().chain(numbered).collect();
+    for cause in [24, 25] {
+        let given = |vector: &&Filing| vector.outcome.as_ref().err() == Some(&(cause, 0));
+        assert!(vectors.iter().filter(given).count() >= 5, "{cause}");
+    }
+    let mut with_numbers = 0;
+    for vector in &vectors {
+        let wanted = match &vector.outcome {
+            Ok(Filed { form, numbers }) => {
+                if let Some(numbers) = numbers {
+                    assert_eq!(*numbers, old_numbers(&vector.image, form));
+                    with_numbers += 1;
+                }
+                Ok(form.as_slice())
+            }
+            Err((number, place)) => Err(u64::from(*number) << 32 | u64::from(*place)),
+        };
+        for side in sides() {
+            side.assert_files(&vector.image, vector.rooms, wanted);
         }
     }
+    assert!(with_numbers >= 15, "{with_numbers}");
 }
 
-/// Programs in which a later key would have it otherwise, each with its filed form.
 #[test]
 fn each_key_decides_before_the_next() {
-    let cases = [
-        ("kind", "d 2<0; 4", "4; d 2<0"),
-        ("kind", "d 0<3; 5<0,1,2", "5<0,1,2; d 0<3"),
-        ("head", "4; 2<0; 3<0,1; 2", "2; 2<0; 3<0,1; 4"),
-        ("sign of the head", "d 3<0; d 2<5", "d 2<5; d 3<0"),
-        ("length", "2<0,1; 2<5; 2", "2; 2<5; 2<0,1"),
-        (
-            "length",
-            "d 2<0,1,3; d 2<4,5; d 2<7",
-            "d 2<7; d 2<4,5; d 2<0,1,3",
-        ),
-        ("first literal", "2<1,3; 2<0,9", "2<0,9; 2<1,3"),
-        ("last literal", "2<0,1,9; 2<0,1,8", "2<0,1,8; 2<0,1,9"),
-        ("pairs", "d 4<0; d 2<0; (0,1)", "d 2<0; d 4<0; (1,0)"),
-        (
-            "pairs",
-            "d 4<0; d 6<0; d 2<0; (0,1); (1,2)",
-            "d 2<0; d 4<0; d 6<0; (1,2); (2,0)",
-        ),
-        (
-            "pairs",
-            "d 6<0; d 4<0; d 2<0; (0,1); (0,2); (1,2); (2,0)",
-            "d 2<0; d 4<0; d 6<0; (0,2); (1,0); (2,0); (2,1)",
-        ),
-        (
-            "literals",
-            "127; d 100<127; d 9<127; (1,2)",
-            "127; d 9<127; d 100<127; (2,1)",
-        ),
-        ("atoms", "atoms 64; 3; 0", "atoms 64; 0; 3"),
-        ("nothing", "", ""),
-    ];
     for side in sides() {
-        for (key, typed, filed) in cases {
-            let atoms = Description::parse(typed).expect("a program").atoms;
-            let filed = image(&format!("atoms {atoms}; {filed}"));
-            assert_eq!(
-                side.filed(&image(typed)),
-                filed,
-                "{}: {key}: {typed}",
-                side.name
-            );
+        for (key, typed, filed) in BY_KEY {
+            let form = side.form(&image(typed));
+            assert_eq!(form, image(filed), "{}: {key}: {typed}", side.name);
         }
     }
-}
-
-/// The rules of a sound image as their parts.
-fn parts(image: &[u8]) -> Vec<Vec<u8>> {
-    Description::of_image(image).parts().rules
 }
 
 /// The rules ascend, the pairs do, and both are those of the image.
 #[test]
 fn filed_images_hold_the_same_in_order() {
     for side in sides() {
-        for image in sound(2000) {
-            let form = side.filed(&image);
+        for image in sound(SEED, 2000) {
+            let form = side.form(&image);
             let name = side.name;
             assert_eq!((side.check)(&form), 0, "{name}: {image:02X?}");
             let rules = parts(&form);
@@ -225,68 +89,85 @@ fn filed_images_hold_the_same_in_order() {
     }
 }
 
-/// The library writes what the reference does, whatever room there is, and touches nothing else.
+/// The library writes what the reference does, whatever room there is, and touches nothing else. Entries past the rules
+/// remain.
 #[test]
 fn sound_images_with_every_room() {
-    for side in sides() {
-        for image in sound(600) {
-            let form = REFERENCE.filed(&image);
-            let length = image.len();
-            for room in [
-                length,
-                length + 1,
-                length + 7,
-                MOST_IMAGE.max(length),
-                70_000,
-            ] {
-                side.assert_files(&image, room, Ok(&form));
+    for image in sound(SEED, 600) {
+        let form = REFERENCE.form(&image);
+        let (length, rules) = (image.len(), parts(&image).len());
+        let enough = [length, length + 1, length + 7, MOST_IMAGE, 70_000];
+        let numbers_enough = [rules, rules + 1, rules + 5, MOST_RULES, 1000];
+        let short = [0, 1, 11, length / 2, length - 1];
+        let numbers_short = [0, rules / 2, rules.saturating_sub(1)];
+        for side in sides() {
+            for (room, number_room) in enough.into_iter().zip(numbers_enough) {
+                side.assert_files(&image, (room, number_room), Ok(&form));
             }
-            for room in [0, 1, 11, length / 2, length - 1] {
-                side.assert_files(&image, room, Err(OUTPUT_TABLE));
+            for (room, number_room) in short.into_iter().zip(numbers_enough) {
+                side.assert_files(&image, (room, number_room), Err(OUTPUT_TABLE));
+            }
+            for number_room in numbers_short.into_iter().filter(|&room| room < rules) {
+                let rooms = (length, number_room);
+                side.assert_files(&image, rooms, Err(NUMBER_TABLE));
             }
         }
     }
 }
 
-/// Every length of the table for the longest image.
+/// Every length of either table for the longest image.
 #[test]
-fn a_table_one_byte_short_is_refused() {
+fn a_table_one_entry_short_is_refused() {
     let image = greatest().image();
     assert_eq!(image.len(), MOST_IMAGE);
+    let form = REFERENCE.form(&image);
     for side in sides() {
-        let form = REFERENCE.filed(&image);
         for room in 0..MOST_IMAGE {
-            side.assert_files(&image, room, Err(OUTPUT_TABLE));
+            side.assert_files(&image, (room, MOST_RULES), Err(OUTPUT_TABLE));
         }
-        side.assert_files(&image, MOST_IMAGE, Ok(&form));
+        for number_room in 0..MOST_RULES {
+            side.assert_files(&image, (MOST_IMAGE, number_room), Err(NUMBER_TABLE));
+        }
+        side.assert_files(&image, (MOST_IMAGE, MOST_RULES), Ok(&form));
     }
 }
 
-/// Causes 1 to 14 with their places come before 24, in a table that would be long enough and in one that is not.
+/// Causes 1 to 14 with their places come before 24 and 25, in tables that would be long enough and in ones that are not.
 #[test]
 fn causes_of_the_image_come_first() {
-    let damaged = damaged(SEED, 3000).chain(late()).map(|case| case.image);
-    let made = MADE_BY_RULE
-        .iter()
-        .flat_map(|(_, make)| make().into_iter().step_by(9));
-    let mut refused: Vec<(Vec<u8>, u64)> = Vec::new();
-    for image in vectors::images()
-        .into_iter()
-        .chain(damaged)
-        .chain(made.map(|case| case.image))
-    {
-        if let Err(refusal) = reference::check(&image) {
-            refused.push((image, refusal.packed()));
-        }
-    }
-    let causes: BTreeSet<u64> = refused.iter().map(|(_, refusal)| refusal >> 32).collect();
-    assert!(causes.into_iter().eq(1..=14), "every cause");
+    let refused = refused(SEED, 3000);
     for side in sides() {
         for (image, refusal) in &refused {
             let length = image.len();
-            for room in [0, length.saturating_sub(1), length, length + 9] {
-                side.assert_files(image, room, Err(*refusal));
+            for rooms in [
+                (0, 0),
+                (length.saturating_sub(1), MOST_RULES),
+                (length, 0),
+                (length + 9, MOST_RULES),
+            ] {
+                side.assert_files(image, rooms, Err(*refusal));
             }
+        }
+    }
+}
+
+/// 14, then 24, then 25: whichever come together, the first is given.
+#[test]
+fn causes_in_their_order() {
+    let contradictory = image(&format!("{F}; 1"));
+    for side in sides() {
+        for chosen in 1..8 {
+            let image = if chosen & 1 == 1 {
+                &contradictory
+            } else {
+                &image(F)
+            };
+            let room = image.len() - (chosen >> 1 & 1);
+            let number_room = parts(image).len() - (chosen >> 2 & 1);
+            let causes = [14 << 32, OUTPUT_TABLE, NUMBER_TABLE];
+            let first = (0..3).find(|cause| chosen >> cause & 1 == 1);
+            let wanted = Err(causes[first.expect("a cause")]);
+            side.assert_files(image, (room, number_room), wanted);
         }
     }
 }
@@ -296,19 +177,14 @@ fn causes_of_the_image_come_first() {
 fn every_order_has_one_filed_form() {
     let mut random = Random::seeded(SEED);
     let (mut moved, mut pairs_moved) = (0, 0);
-    for image in sound(800) {
+    for image in sound(SEED, 800) {
         let program = Description::of_image(&image);
         let orders: Vec<Description> = (0..4).map(|_| retyped(&mut random, &program)).collect();
         for side in sides() {
-            let form = side.filed(&image);
-            assert_eq!(
-                side.filed(&form),
-                form,
-                "{}: twice: {image:02X?}",
-                side.name
-            );
+            let form = side.form(&image);
+            assert_eq!(side.form(&form), form, "{}: twice: {image:02X?}", side.name);
             for other in &orders {
-                assert_eq!(side.filed(&other.image()), form, "{}: {other:?}", side.name);
+                assert_eq!(side.form(&other.image()), form, "{}: {other:?}", side.name);
             }
         }
         moved += orders
@@ -328,7 +204,7 @@ fn every_order_has_one_filed_form() {
 fn every_change_has_another_filed_form() {
     let mut random = Random::seeded(!SEED);
     let mut seen: BTreeMap<&str, usize> = BTreeMap::new();
-    for image in sound(800) {
+    for image in sound(SEED, 800) {
         let program = Description::of_image(&image);
         for (name, change) in CHANGES {
             let Some(other) = change(&mut random, &program) else {
@@ -339,7 +215,7 @@ fn every_change_has_another_filed_form() {
                 continue;
             }
             for side in sides() {
-                let differ = side.filed(&image) != side.filed(&other);
+                let differ = side.form(&image) != side.form(&other);
                 assert!(differ, "{}: {name}: {program:?}", side.name);
             }
             *seen.entry(name).or_default() += 1;
@@ -380,7 +256,7 @@ fn equal_bytes_exactly_for_the_same_program() {
                 if reference::check(&image(&typed)).is_ok() {
                     images += 1;
                     for side in sides() {
-                        let form = side.filed(&image(&typed));
+                        let form = side.form(&image(&typed));
                         programs.entry(form).or_default().insert(content.clone());
                     }
                 }
@@ -440,9 +316,11 @@ fn some_pairs(rules: &[usize]) -> Vec<Vec<(usize, usize)>> {
 fn queries_do_not_see_the_order() {
     for side in sides() {
         let mut results: BTreeMap<u64, usize> = BTreeMap::new();
-        let programs = small_programs(SEED, side.asked)
-            .chain(chained(SEED, side.asked))
-            .chain(contested_programs(SEED, side.asked / 8, 4));
+        // How many programs are asked about all their literals.
+        let asked = if side.quick { 400 } else { 12 };
+        let programs = small_programs(SEED, asked)
+            .chain(chained(SEED, asked))
+            .chain(contested_programs(SEED, asked / 8, 4));
         for case in programs {
             if reference::check(&case.image).is_ok() {
                 ask_both(&side, &case.image, &mut results);
@@ -461,7 +339,7 @@ fn queries_do_not_see_the_order() {
 
 /// Counts the answers by their codes, and refusals by their number in the upper half.
 fn ask_both(side: &Side, image: &[u8], results: &mut BTreeMap<u64, usize>) {
-    let form = side.filed(image);
+    let form = side.form(image);
     let name = side.name;
     let same = |what: &str, given: u64, wanted: u64| {
         assert_eq!(given, wanted, "{name}: {what}: {image:02X?}");
@@ -506,16 +384,33 @@ fn ask_both(side: &Side, image: &[u8], results: &mut BTreeMap<u64, usize>) {
 #[test]
 fn null_is_no_byte() {
     use foqtirel_binding::raw::foqtirel_file;
+    use foqtirel_tests::sides::lent;
     use std::ptr::{null, null_mut};
 
-    let sound = image("0; d 2<0");
-    let mut out = lent(40, false);
-    // SAFETY: nothing is read from an image of no bytes, and nothing is written to a table of none.
+    let (sound, empty) = (image("0; d 2<0"), image(""));
+    let (mut out, mut numbers) = (lent(40, false), lent(2, false));
+    let (table, entries) = (out.as_mut_ptr(), numbers.as_mut_ptr());
+    let file = |image: &[u8], table, room, entries, number_room| {
+        let (bytes, length) = (image.as_ptr(), image.len());
+        // SAFETY: the tables have as many bytes as the call is told.
+        unsafe { foqtirel_file(bytes, length, table, room, entries, number_room) }
+    };
+    assert_eq!(file(&sound, null_mut(), 0, entries, 2), OUTPUT_TABLE);
+    assert_eq!(file(&sound, table, 40, null_mut(), 0), NUMBER_TABLE);
+    assert_eq!(file(&sound, null_mut(), 0, null_mut(), 0), OUTPUT_TABLE);
+    // SAFETY: nothing is read from an image of no bytes.
     unsafe {
-        let given = foqtirel_file(sound.as_ptr(), sound.len(), null_mut(), 0);
-        assert_eq!(given, OUTPUT_TABLE);
-        assert_eq!(foqtirel_file(null(), 0, null_mut(), 0), 1 << 32);
-        assert_eq!(foqtirel_file(null(), 0, out.as_mut_ptr(), 40), 1 << 32);
+        let refused = 1 << 32;
+        let given = foqtirel_file(null(), 0, table, 40, entries, 2);
+        assert_eq!(given, refused);
+        let given = foqtirel_file(null(), 0, null_mut(), 0, null_mut(), 0);
+        assert_eq!(given, refused);
     }
-    assert_eq!(out, lent(40, false));
+    assert_eq!((out.clone(), numbers), (lent(40, false), lent(2, false)));
+    // An image without rules has no numbers.
+    assert_eq!(file(&empty, table, 40, null_mut(), 0), 12);
+    assert_eq!(
+        (&out[..12], &out[12..]),
+        (&empty[..], &lent(40, false)[12..])
+    );
 }

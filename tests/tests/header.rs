@@ -38,6 +38,7 @@ fn the_header_has_the_numbers() {
     assert_eq!(number("LITERALS"), Some(128));
     assert_eq!(number("LEAST_IMAGE"), Some(12));
     assert_eq!(number("MOST_IMAGE"), Some(1836));
+    assert_eq!(number("MOST_RULES"), Some(96));
 }
 
 /// As C and, where there is a compiler for it, as C++.
@@ -81,7 +82,8 @@ fn results_of_32_and_of_64_bits_do_not_pass_for_each_other() {
     };
     let wide = [
         "foqtirel_check(NULL, 0)",
-        "foqtirel_file(NULL, 0, NULL, 0)",
+        "foqtirel_file(NULL, 0, NULL, 0, NULL, 0)",
+        "foqtirel_unfile(NULL, 0, NULL, 0, NULL, 0)",
         "foqtirel_list(NULL, 0, NULL, 0)",
         "foqtirel_trees(NULL, 0, 0, 0, NULL, 0, NULL, 0)",
     ];
@@ -102,12 +104,13 @@ fn results_of_32_and_of_64_bits_do_not_pass_for_each_other() {
 }
 
 /// The calls, in the order of their names.
-const CALLS: [&str; 5] = [
+const CALLS: [&str; 6] = [
     "foqtirel_check",
     "foqtirel_file",
     "foqtirel_list",
     "foqtirel_query",
     "foqtirel_trees",
+    "foqtirel_unfile",
 ];
 
 /// What a library offers and what it needs, by `nm`.

@@ -5,8 +5,8 @@ use std::ptr::{null, null_mut};
 use std::thread;
 
 use foqtirel_binding::{
-    answered, answered_with_trees, check, file, granted, list, query, raw, trees, Answer, Node,
-    Refusal,
+    answered, answered_with_trees, check, file, granted, list, query, raw, trees, unfile, Answer,
+    Node, Refusal,
 };
 use foqtirel_tests::fittings::{F, FITTINGS};
 use foqtirel_tests::generator::late::late;
@@ -299,9 +299,10 @@ fn refused_images_leave_the_tables() {
             continue;
         };
         assert_eq!(check(&image), cause.packed());
-        let mut out = bytes(image.len());
-        assert_eq!(file(&image, &mut out), cause.packed());
-        assert_eq!(out, bytes(image.len()));
+        let (mut out, mut numbers) = (bytes(image.len()), bytes(96));
+        assert_eq!(file(&image, &mut out, &mut numbers), cause.packed());
+        assert_eq!(unfile(&image, &numbers, &mut out), cause.packed());
+        assert_eq!((out, numbers), (bytes(image.len()), bytes(96)));
         let (mut arguments, mut nodes) = tables(9, 9);
         assert_eq!(list(&image, &mut arguments), cause.packed());
         let given = trees(&image, literal, 9, &mut arguments, &mut nodes);
@@ -320,10 +321,14 @@ fn assert_refused_by_every_call(case: &Case, lengths: (usize, usize)) {
     let image = &case.image;
     let wanted = Err(refusal(number, place));
     assert_eq!(granted(check(image)), wanted, "{case:02X?}");
-    for room in [lengths.0, image.len()] {
-        let mut out = bytes(room);
-        assert_eq!(granted(file(image, &mut out)), wanted, "{case:02X?}");
-        assert!(out == bytes(room), "bytes touched: {case:02X?}");
+    for (room, number_room) in [lengths, (image.len(), 96)] {
+        let (mut out, mut numbers) = (bytes(room), bytes(number_room));
+        let filed = granted(file(image, &mut out, &mut numbers));
+        assert_eq!(filed, wanted, "{case:02X?}");
+        let unfiled = granted(unfile(image, &numbers, &mut out));
+        assert_eq!(unfiled, wanted, "{case:02X?}");
+        let left = (bytes(room), bytes(number_room));
+        assert!((out, numbers) == left, "bytes touched: {case:02X?}");
     }
     let (mut arguments, mut nodes) = tables(lengths.0, lengths.1);
     let listed = granted(list(image, &mut arguments));

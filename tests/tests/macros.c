@@ -1,5 +1,6 @@
 /* Every macro of the header on every kind of result, from the calls and from numbers. Says which line is wrong. */
 #include <stdio.h>
+#include <string.h>
 
 #include "foqtirel.h"
 #include "foqtirel.h"
@@ -14,10 +15,15 @@
 /* The program F of the vectors: 0, d 2<0, d 3<0, the first beats the second. */
 static const uint8_t image[] = {2, 0, 3, 0, 1, 0, 0, 0, 24, 0, 2, 0, 26, 0, 3, 0, 29,
                                 0, 3, 0, 32, 0, 2, 0, 0, 0, 1, 2, 0, 1, 3, 0, 1, 2};
-/* The same with the kind of rule 2 out of range. */
+/* The same with rules 1 and 2 in each other's places. */
+static const uint8_t turned[] = {2, 0, 3, 0, 1, 0, 0, 0, 24, 0, 2, 0, 26, 0, 3, 0, 29,
+                                 0, 3, 0, 32, 0, 2, 0, 0, 0, 1, 3, 0, 1, 2, 0, 2, 1};
+/* The program F with the kind of rule 2 out of range. */
 static uint8_t damaged[sizeof image];
 
 static uint8_t form[FOQTIREL_MOST_IMAGE];
+static uint8_t typed[FOQTIREL_MOST_IMAGE];
+static uint8_t numbers[FOQTIREL_MOST_RULES];
 static uint32_t arguments[FOQTIREL_ARGUMENTS];
 static struct foqtirel_node nodes[FOQTIREL_MOST_NODES];
 static int asked;
@@ -25,7 +31,13 @@ static int asked;
 static uint64_t file(size_t room)
 {
     asked++;
-    return foqtirel_file(image, sizeof image, form, room);
+    return foqtirel_file(image, sizeof image, form, room, numbers, sizeof numbers);
+}
+
+static uint64_t unfile(const uint8_t *from, size_t count, size_t room)
+{
+    asked++;
+    return foqtirel_unfile(from, sizeof image, numbers, count, typed, room);
 }
 
 static uint64_t trees(uint32_t literal, uint32_t budget, size_t room, size_t node_room)
@@ -60,13 +72,43 @@ static int results_of_file(void)
 
     DEMAND(!FOQTIREL_REFUSED64(result) && FOQTIREL_NUMBER64(result) == 0u && FOQTIREL_LENGTH64(result) == sizeof image);
     DEMAND(form[2] == 3u && form[sizeof image - 1] == 2u && form[sizeof image] == 0u);
+    DEMAND(numbers[0] == 0u && numbers[1] == 1u && numbers[2] == 2u && numbers[3] == 0u);
     result = file(sizeof image - 1);
     DEMAND(FOQTIREL_REFUSED64(result) && FOQTIREL_NUMBER64(result) == FOQTIREL_OUTPUT_TABLE);
     DEMAND(FOQTIREL_PLACE64(result) == 0u);
-    result = foqtirel_file(damaged, sizeof damaged, form, 0);
+    result = foqtirel_file(image, sizeof image, form, sizeof form, numbers, 2);
+    DEMAND(FOQTIREL_REFUSED64(result) && FOQTIREL_NUMBER64(result) == FOQTIREL_NUMBER_TABLE);
+    DEMAND(FOQTIREL_PLACE64(result) == 0u);
+    result = foqtirel_file(damaged, sizeof damaged, form, 0, NULL, 0);
     DEMAND(FOQTIREL_REFUSED64(result) && FOQTIREL_NUMBER64(result) == FOQTIREL_RULE_KIND);
     DEMAND(FOQTIREL_PLACE64(result) == 2u);
     DEMAND(FOQTIREL_LENGTH64((uint64_t)FOQTIREL_MOST_IMAGE) == FOQTIREL_MOST_IMAGE);
+    return 0;
+}
+
+static int results_of_unfile(void)
+{
+    uint64_t result;
+
+    numbers[0] = 0;
+    numbers[1] = 2;
+    numbers[2] = 1;
+    result = unfile(image, 3, sizeof image);
+    DEMAND(!FOQTIREL_REFUSED64(result) && FOQTIREL_NUMBER64(result) == 0u && FOQTIREL_LENGTH64(result) == sizeof image);
+    DEMAND(memcmp(typed, turned, sizeof turned) == 0 && typed[sizeof image] == 0u);
+    result = unfile(image, 3, sizeof image - 1);
+    DEMAND(FOQTIREL_REFUSED64(result) && FOQTIREL_NUMBER64(result) == FOQTIREL_OUTPUT_TABLE);
+    result = unfile(image, 2, sizeof typed);
+    DEMAND(FOQTIREL_REFUSED64(result) && FOQTIREL_NUMBER64(result) == FOQTIREL_NUMBER_TABLE);
+    result = unfile(turned, 3, sizeof typed);
+    DEMAND(FOQTIREL_REFUSED64(result) && FOQTIREL_NUMBER64(result) == FOQTIREL_MISFILED);
+    numbers[2] = 3;
+    result = unfile(image, 3, sizeof typed);
+    DEMAND(FOQTIREL_REFUSED64(result) && FOQTIREL_NUMBER64(result) == FOQTIREL_MISFILED);
+    DEMAND(FOQTIREL_PLACE64(result) == 0u);
+    result = unfile(damaged, 3, sizeof typed);
+    DEMAND(FOQTIREL_REFUSED64(result) && FOQTIREL_NUMBER64(result) == FOQTIREL_RULE_KIND);
+    DEMAND(FOQTIREL_PLACE64(result) == 2u);
     return 0;
 }
 
@@ -184,6 +226,7 @@ int main(void)
     line = layout_of_a_node();
     line = line != 0 ? line : results_of_check();
     line = line != 0 ? line : results_of_file();
+    line = line != 0 ? line : results_of_unfile();
     line = line != 0 ? line : results_of_list();
     line = line != 0 ? line : results_of_trees();
     line = line != 0 ? line : results_of_query();

@@ -13,7 +13,8 @@ use foqtirel_tests::generator::filing::alike;
 use foqtirel_tests::generator::{accepted, all_applicable, many_arguments};
 use foqtirel_tests::header::constants;
 use foqtirel_tests::reference::image::defeasible_rules;
-use foqtirel_tests::reference::MOST_NODES;
+use foqtirel_tests::reference::{check, MOST_NODES};
+use foqtirel_tests::sides::REFERENCE;
 use foqtirel_tests::vectors;
 
 const KIB: usize = 1024;
@@ -25,8 +26,9 @@ const ORDER: &str = "FOQTIREL_STACK_ORDER";
 /// Enough for every list the tests make.
 const TABLE: usize = 100_000;
 const BUDGET: u32 = MOST_NODES as u32;
-/// Enough for every filed form.
+/// Enough for every filed form and its old numbers.
 const MOST_IMAGE: usize = 1836;
+const MOST_RULES: usize = 96;
 
 /// Vectors and random programs with at most so many defeasible rules.
 fn images_up_to(most: usize) -> Vec<Vec<u8>> {
@@ -43,15 +45,17 @@ fn images_up_to(most: usize) -> Vec<Vec<u8>> {
 enum Call {
     Check,
     File,
+    Unfile,
     List,
     Trees,
     Query,
 }
 
 impl Call {
-    const ALL: [Call; 5] = [
+    const ALL: [Call; 6] = [
         Call::Check,
         Call::File,
+        Call::Unfile,
         Call::List,
         Call::Trees,
         Call::Query,
@@ -61,6 +65,7 @@ impl Call {
         match self {
             Call::Check => "check",
             Call::File => "file",
+            Call::Unfile => "unfile",
             Call::List => "list",
             Call::Trees => "trees",
             Call::Query => "query",
@@ -76,7 +81,27 @@ impl Call {
 /// What a process is to call on its small stack: for each literal of each image, with the greatest budget.
 struct Order {
     call: Call,
-    questions: Vec<(Vec<u8>, Vec<u32>)>,
+    questions: Vec<Question>,
+}
+
+struct Question {
+    image: Vec<u8>,
+    /// The old numbers, for the way back.
+    numbers: Vec<u8>,
+    literals: Vec<u32>,
+}
+
+/// The way back is asked about the filed form.
+fn question(call: Call, image: Vec<u8>, literals: Vec<u32>) -> Question {
+    let (image, numbers) = match call {
+        Call::Unfile if check(&image).is_ok() => REFERENCE.filed(&image),
+        _ => (image, Vec::new()),
+    };
+    Question {
+        image,
+        numbers,
+        literals,
+    }
 }
 
 /// `nothing`, or a call and its images: `rules=N` applicable rules, `upto=N` rules at most, or
@@ -91,7 +116,7 @@ fn order_of(what: &str) -> Option<Order> {
         "rules" => vec![all_applicable(number).image()],
         "upto" => images_up_to(number),
         name => {
-            let questions = vec![(vectors::image(name), vec![number as u32])];
+            let questions = vec![question(call, vectors::image(name), vec![number as u32])];
             return Some(Order { call, questions });
         }
     };
@@ -99,16 +124,20 @@ fn order_of(what: &str) -> Option<Order> {
         Some(&atoms) if call.answers() => (0..2 * u32::from(atoms).clamp(1, 64)).collect(),
         _ => vec![0],
     };
-    let questions = images
-        .into_iter()
-        .map(|image| (image.clone(), literals(&image)))
-        .collect();
-    Some(Order { call, questions })
+    let questions = images.into_iter().map(|image| {
+        let literals = literals(&image);
+        question(call, image, literals)
+    });
+    Some(Order {
+        call,
+        questions: questions.collect(),
+    })
 }
 
 /// The tables that the calls are lent.
 struct Tables {
     bytes: Vec<u8>,
+    entries: Vec<u8>,
     arguments: Vec<u32>,
     nodes: Vec<Node>,
 }
@@ -117,15 +146,18 @@ struct Tables {
 fn carry_out(order: &Order, tables: &mut Tables) -> usize {
     let Tables {
         bytes,
+        entries,
         arguments,
         nodes,
     } = tables;
     let mut answered = 0;
-    for (image, literals) in &order.questions {
-        for &literal in literals {
+    for question in &order.questions {
+        let Question { image, numbers, .. } = question;
+        for &literal in &question.literals {
             let refused = match order.call {
                 Call::Check => library::check(image) >> 32 != 0,
-                Call::File => library::file(image, bytes) >> 32 != 0,
+                Call::File => library::file(image, bytes, entries) >> 32 != 0,
+                Call::Unfile => library::unfile(image, numbers, bytes) >> 32 != 0,
                 Call::List => library::list(image, arguments) >> 32 != 0,
                 Call::Trees => library::trees(image, literal, BUDGET, arguments, nodes) >> 32 != 0,
                 Call::Query => library::query(image, literal, BUDGET) >> 16 == 0,
@@ -146,6 +178,7 @@ fn child() {
     let order = order_of(what);
     let mut tables = Tables {
         bytes: vec![0; MOST_IMAGE],
+        entries: vec![0; MOST_RULES],
         arguments: vec![0; TABLE],
         nodes: vec![Node::default(); MOST_NODES],
     };
@@ -198,6 +231,7 @@ fn every_call_ends_on_the_stack_of_the_header() {
     for (figure, most, what) in [
         ("STACK_CHECK", 16, "check upto=16"),
         ("STACK_FILE", 16, "file upto=16"),
+        ("STACK_FILE", 16, "unfile upto=16"),
         ("STACK_LIST_12", 128, "list upto=12"),
         ("STACK_LIST", 2048, "list upto=16"),
         ("STACK_12_RULES", 512, "trees upto=12"),

@@ -6,10 +6,11 @@ use crate::asked::{find, hint, Asked};
 use crate::engine::{self, Answer, Verdict, MOST_NODES};
 use crate::explain::{answer_line, count, meaning, tell, trees, Told};
 use crate::fault::{plain, Fault};
-use crate::load::{load, load_image, names_image, same_file, Loaded, STANDARD_INPUT};
+use crate::filing::Filed;
+use crate::load::{load, load_image, names_image, same_file, same_place, Loaded, STANDARD_INPUT};
 use crate::program::Program;
-use crate::words::{form, sort, usage, Words};
-use crate::{filing, help, same, svg};
+use crate::words::{form, sort, usage, Form, Words};
+use crate::{filing, help, numbers, same, svg};
 
 /// A command's text, for standard output, notes on the program, for standard error, and the exit status.
 pub struct Printed {
@@ -62,6 +63,7 @@ fn named(command: &str) -> Result<(&'static str, Command), Fault> {
     Ok(match command {
         "compile" => (help::COMPILE, compile_file),
         "file" => (help::FILE, file),
+        "unfile" => (help::UNFILE, unfile),
         "same" => (help::SAME, same),
         "show" => (help::SHOW, show),
         "ask" => (help::ASK, ask),
@@ -72,19 +74,22 @@ fn named(command: &str) -> Result<(&'static str, Command), Fault> {
     })
 }
 
-/// Told before anything is read: what is written may not go over the program.
-fn check_output(words: &Words, out: &str) -> Result<(), Fault> {
+/// Told before anything is read: what is written may go over nothing that is read. Each input comes with what it is.
+fn check_output(inputs: &[(&str, &str)], out: &str) -> Result<(), Fault> {
     let told = plain(out);
     if out == STANDARD_INPUT {
         return Err(Fault::Usage(format!("cannot write `{told}`: name a file")));
     }
-    if same_file(words.places[0], out) {
-        return Err(Fault::Usage(format!(
-            "{told} is the program itself: name another file to write"
-        )));
+    match inputs.iter().find(|(input, _)| same_file(input, out)) {
+        Some((_, what)) => Err(Fault::Usage(format!(
+            "{told} is {what}: name another file to write"
+        ))),
+        None => Ok(()),
     }
-    Ok(())
 }
+
+/// What an input is that a command answers from.
+const PROGRAM: &str = "the program itself";
 
 fn write(path: &str, bytes: &[u8]) -> Result<(), Fault> {
     fs::write(path, bytes)
@@ -92,54 +97,116 @@ fn write(path: &str, bytes: &[u8]) -> Result<(), Fault> {
 }
 
 fn compile_file(words: &[String]) -> Result<Printed, Fault> {
-    write_image(words, help::COMPILE, |loaded| Ok((loaded, String::new())))
+    write_made(
+        words,
+        &form(1, &["-o"], &["--names"], help::COMPILE),
+        |loaded| {
+            Ok(Made {
+                loaded,
+                numbers: Vec::new(),
+                note: String::new(),
+            })
+        },
+    )
 }
 
 fn file(words: &[String]) -> Result<Printed, Fault> {
-    write_image(words, help::FILE, |loaded| {
-        let filed = filing::filed(&loaded)?;
-        let note = match filed.image == loaded.image && loaded.from_image() {
-            true => format!("note: {} was in filed form already\n", plain(&loaded.name)),
+    let form = form(1, &["-o", "--numbers"], &["--names"], help::FILE);
+    write_made(words, &form, |typed| {
+        let Filed { loaded, numbers } = filing::filed(&typed)?;
+        let note = match loaded.image == typed.image && typed.from_image() {
+            true => format!("note: {} was in filed form already\n", plain(&typed.name)),
             false => String::new(),
         };
-        Ok((filed, note))
+        Ok(Made {
+            loaded,
+            numbers,
+            note,
+        })
     })
 }
 
-/// Writes the image that is made of a program, or tells the numbers in it, or both.
-fn write_image(
+/// What is made of a program to be written.
+struct Made {
+    /// With the image that is written.
+    loaded: Loaded,
+    /// The old numbers of its rules, where they have others now.
+    numbers: Vec<u8>,
+    note: String,
+}
+
+/// Writes the image that is made of a program, and the old numbers of its rules, and tells the numbers of its literals: what
+/// is asked for.
+fn write_made(
     words: &[String],
-    page: &'static str,
-    make: fn(Loaded) -> Result<(Loaded, String), Fault>,
+    form: &Form,
+    make: fn(Loaded) -> Result<Made, Fault>,
 ) -> Result<Printed, Fault> {
-    let words = sort(words, &form(1, &["-o"], &["--names"], page))?;
-    let (out, names) = (words.value("-o"), words.flag("--names"));
-    if out.is_none() && !names {
-        return Err(usage("`-o IMAGE` is missing", page));
+    let words = sort(words, form)?;
+    let (out, numbers) = (words.value("-o"), words.value("--numbers"));
+    if out.is_none() && numbers.is_none() && !words.flag("--names") {
+        return Err(usage("`-o IMAGE` is missing", form.page));
     }
-    if let Some(out) = out {
-        check_output(&words, out)?;
+    for out in out.iter().chain(&numbers) {
+        check_output(&[(words.places[0], PROGRAM)], out)?;
     }
-    let (made, note) = make(load(words.places[0])?)?;
+    let both = out.zip(numbers);
+    if both.is_some_and(|(image, table)| same_place(image, table)) {
+        let what = "the image and the numbers go to two files";
+        return Err(usage(what, form.page));
+    }
+    let made = make(load(words.places[0])?)?;
     let mut told = String::new();
     if let Some(out) = out {
-        write(out, &made.image)?;
-        told += &(written(out, &made) + &note);
+        write(out, &made.loaded.image)?;
+        told += &(written(out, &made.loaded.image, &made.loaded.program) + &made.note);
     }
-    if names {
-        told += &numbered(&made.program);
+    if let Some(out) = numbers {
+        write(out, numbers::text(&made.numbers).as_bytes())?;
+        let rules = count(made.numbers.len(), "rule");
+        told += &format!("{}: the old numbers of {rules}\n", plain(out));
     }
-    Ok(printed(made, told))
+    if words.flag("--names") {
+        told += &numbered(&made.loaded.program);
+    }
+    Ok(printed(made.loaded, told))
 }
 
 /// What was written, with a note where this tool would not read it back.
-fn written(out: &str, Loaded { image, program, .. }: &Loaded) -> String {
+fn written(out: &str, image: &[u8], program: &Program) -> String {
     let note = match names_image(out) {
         true => "",
         false => "note: only a file whose name ends in .img is read as an image\n",
     };
     let bytes = count(image.len(), "byte");
     format!("{}: {bytes}, {}\n{note}", plain(out), program.size())
+}
+
+fn unfile(words: &[String]) -> Result<Printed, Fault> {
+    let words = sort(words, &form(1, &["--numbers", "-o"], &[], help::UNFILE))?;
+    let needed = |option: &str, shown: &str| {
+        let missing = || usage(&format!("`{shown}` is missing"), help::UNFILE);
+        words.value(option).ok_or_else(missing)
+    };
+    let table = needed("--numbers", "--numbers NUMBERS")?;
+    let out = needed("-o", "-o OUT")?;
+    if [words.places[0], table] == [STANDARD_INPUT; 2] {
+        return Err(once(help::UNFILE));
+    }
+    let inputs = [(words.places[0], PROGRAM), (table, "the table of numbers")];
+    check_output(&inputs, out)?;
+    let loaded = load_image(words.places[0])?;
+    let numbers = numbers::load(table)?;
+    let typed = filing::unfiled(&loaded, &numbers)?;
+    write(out, &typed)?;
+    let note = numbers.note(loaded.program.rules.len());
+    let told = written(out, &typed, &loaded.program) + &note;
+    Ok(printed(loaded, told))
+}
+
+/// Told of a command with two files to read.
+fn once(page: &str) -> Fault {
+    usage("standard input can be read once", page)
 }
 
 /// The literals with their numbers, which are what the C call takes.
@@ -152,7 +219,7 @@ fn numbered(program: &Program) -> String {
 fn same(words: &[String]) -> Result<Printed, Fault> {
     let words = sort(words, &form(2, &[], &[], help::SAME))?;
     if words.places == [STANDARD_INPUT; 2] {
-        return Err(usage("standard input can be read once", help::SAME));
+        return Err(once(help::SAME));
     }
     let compared = |fault: Fault| Fault::Compared(fault.render());
     let one = load(words.places[0]).map_err(compared)?;
@@ -253,7 +320,7 @@ fn tree(words: &[String]) -> Result<Printed, Fault> {
     let out = words
         .value("--svg")
         .ok_or_else(|| usage("`--svg OUT` is missing", help::TREE))?;
-    check_output(&words, out)?;
+    check_output(&[(words.places[0], PROGRAM)], out)?;
     let question = question(&words, help::TREE)?;
     let Question { asked, verdict, .. } = &question;
     let heading = format!(

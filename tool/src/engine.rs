@@ -8,8 +8,14 @@ pub const TABLE: usize = 4096;
 /// The greatest budget, in nodes.
 pub const MOST_NODES: u32 = 4096;
 
+/// The most rules of a program.
+pub const MOST_RULES: usize = 96;
+
 /// The refusal of a program whose facts and strict rules contradict each other.
 pub const CONTRADICTION: u32 = 14;
+/// The refusals of the way back from filed form: too few numbers, and numbers or an image that are not right.
+pub const NUMBER_TABLE: u32 = 25;
+pub const MISFILED: u32 = 26;
 
 /// An argument of the list: a set of defeasible rules, and what it concludes.
 #[derive(Clone, Copy, Debug, PartialEq, Eq)]
@@ -60,6 +66,8 @@ pub fn meaning(refusal: &Refusal) -> &'static str {
         22 => "the node table is shorter than the budget",
         23 => "the program has more than 4,096 arguments",
         24 => "the byte table is shorter than the image",
+        NUMBER_TABLE => "there are fewer numbers than rules",
+        MISFILED => "this is not what `file` writes",
         _ => "a cause that this tool does not know",
     }
 }
@@ -107,12 +115,31 @@ pub fn check(image: &[u8]) -> Result<(), Refusal> {
     granted(foqtirel_binding::check(image)).map(|_| ())
 }
 
-/// The filed form of an image.
-pub fn file(image: &[u8]) -> Result<Vec<u8>, Refusal> {
-    let mut form = vec![0; image.len()];
-    let length = granted(foqtirel_binding::file(image, &mut form))?;
+/// An image in filed form, with the number that each of its rules had before.
+#[derive(Clone, Debug, PartialEq, Eq)]
+pub struct Filed {
+    pub image: Vec<u8>,
+    pub numbers: Vec<u8>,
+}
+
+pub fn file(image: &[u8]) -> Result<Filed, Refusal> {
+    let (mut form, mut numbers) = (vec![0; image.len()], vec![0; MOST_RULES]);
+    let length = granted(foqtirel_binding::file(image, &mut form, &mut numbers))?;
     form.truncate(length as usize);
-    Ok(form)
+    // An accepted image has so few rules that their count is one byte.
+    numbers.truncate(form[2].into());
+    Ok(Filed {
+        image: form,
+        numbers,
+    })
+}
+
+/// A filed image with its rules at their old numbers.
+pub fn unfile(image: &[u8], numbers: &[u8]) -> Result<Vec<u8>, Refusal> {
+    let mut typed = vec![0; image.len()];
+    let length = granted(foqtirel_binding::unfile(image, numbers, &mut typed))?;
+    typed.truncate(length as usize);
+    Ok(typed)
 }
 
 pub fn list(image: &[u8]) -> Result<Vec<Argument>, Refusal> {

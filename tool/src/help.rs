@@ -5,6 +5,7 @@ foqtirel: answers from rules that have exceptions, by a proved engine
 
     foqtirel compile FILE -o IMAGE       a program text to an image
     foqtirel file FILE -o IMAGE          an image that shows no order of typing
+    foqtirel unfile IMAGE --numbers NUMS a filed image back in that order
     foqtirel same FILE FILE              whether two programs hold the same
     foqtirel show IMAGE                  an image back to text
     foqtirel ask FILE LITERAL            the answer to one literal
@@ -48,7 +49,7 @@ IMAGE ends in .img where this tool is to read it.
 ";
 
 pub const FILE: &str = "\
-foqtirel file FILE [-o IMAGE] [--names]
+foqtirel file FILE [-o IMAGE] [--numbers NUMBERS] [--names]
 
 Writes the filed image of a program: it is the same, byte for byte, in whatever
 order the program was typed, and it gives the same answers. Rules ascend by kind
@@ -57,7 +58,22 @@ A text's atoms are numbered as its lines `:- atoms a, b, c.` say, and the others
 after those in the order of their names, not by first occurrence as `compile`
 does: --names prints each literal's number with its name, one literal a line.
 The atoms of an image keep their numbers.
+--numbers writes the way back: for each rule of the image the number that it had
+before, one a line. Rules are counted from 0 in the order of typing.
 IMAGE ends in .img where this tool is to read it.
+";
+
+pub const UNFILE: &str = "\
+foqtirel unfile IMAGE --numbers NUMBERS -o OUT
+
+Writes a filed image with its rules in the order in which they were typed, by the
+numbers that `file --numbers` wrote beside it. Filing an image and going back
+gives its exact bytes. Of a text it gives the image with the rules in the order
+of the text, where the atoms have the numbers that `file` gave them.
+NUMBERS is text: a number for each rule of the image, from 0 on, each once, with
+white space between them; `-` is the standard input. What is past them is not
+used.
+OUT ends in .img where this tool is to read it.
 ";
 
 pub const SAME: &str = "\

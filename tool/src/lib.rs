@@ -1,7 +1,7 @@
 //! The command-line tool over the proved engine: programs as text, answers with their trees.
 //!
-//! The answers, arguments, trees, marks and filed images are the engine's. What this crate adds is the way in (text to
-//! image) and the way out (names, words and pictures), which is tested, not proved.
+//! The answers, arguments, trees and marks, and the images that are filed or put back in order, are the engine's. What this
+//! crate adds is the way in (text to image) and the way out (names, words and pictures), which is tested, not proved.
 
 pub mod asked;
 pub mod command;
@@ -15,6 +15,7 @@ pub mod image;
 pub mod lexer;
 pub mod load;
 pub mod notes;
+pub mod numbers;
 pub mod preference;
 pub mod program;
 pub mod reason;

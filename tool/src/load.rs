@@ -3,6 +3,7 @@
 use std::fs;
 use std::io::{self, Read};
 use std::os::unix::fs::MetadataExt;
+use std::path::Path;
 use std::string::FromUtf8Error;
 
 use crate::compile::compile;
@@ -44,7 +45,7 @@ impl Loaded {
 pub const STANDARD_INPUT: &str = "-";
 
 /// What messages call a file.
-fn name_of(path: &str) -> &str {
+pub fn name_of(path: &str) -> &str {
     if path == STANDARD_INPUT {
         "standard input"
     } else {
@@ -62,17 +63,7 @@ pub fn load(path: &str) -> Result<Loaded, Fault> {
         return load_image(path);
     }
     let name = name_of(path);
-    let bytes = read(path, MOST_TEXT)?;
-    if bytes.len() as u64 > MOST_TEXT {
-        return Err(Fault::Usage(format!(
-            "{} has over {MOST_TEXT} bytes: that is no program text",
-            plain(name)
-        )));
-    }
-    let text = match String::from_utf8(bytes) {
-        Ok(text) => text,
-        Err(error) => return Err(not_text(name, error)),
-    };
+    let text = read_text(path, &PROGRAM)?;
     let (image, program, source) =
         load_text(&text).map_err(|flaw| Fault::Text(flaw.render(name, &text)))?;
     engine::check(&image).map_err(|refusal| Fault::refused(refusal, name))?;
@@ -83,6 +74,30 @@ pub fn load(path: &str) -> Result<Loaded, Fault> {
         source: Some(source),
         name: name.to_string(),
     })
+}
+
+/// A sort of text: what messages call it, and what they say where a file is none.
+pub struct Sort {
+    pub name: &'static str,
+    pub help: &'static str,
+}
+
+const PROGRAM: Sort = Sort {
+    name: "program text",
+    help: "save the program as UTF-8; the name of an image ends in .img",
+};
+
+/// The text in a file.
+pub fn read_text(path: &str, sort: &Sort) -> Result<String, Fault> {
+    let bytes = read(path, MOST_TEXT)?;
+    if bytes.len() as u64 > MOST_TEXT {
+        return Err(Fault::Usage(format!(
+            "{} has over {MOST_TEXT} bytes: that is no {}",
+            plain(name_of(path)),
+            sort.name
+        )));
+    }
+    String::from_utf8(bytes).map_err(|error| not_text(name_of(path), error, sort.help))
 }
 
 /// The image and the program of a text, and the text as it was read. A contradiction is told here, where the lines are
@@ -157,7 +172,7 @@ fn told_text(path: &str, bytes: &[u8]) -> String {
     match (is_text(bytes), names_image(path)) {
         (false, _) => String::new(),
         (true, true) => "\n help: this is a text; name it .delp".to_string(),
-        (true, false) => "\n help: this is a text; `show` reads an image".to_string(),
+        (true, false) => "\n help: this is a text; an image is needed here".to_string(),
     }
 }
 
@@ -203,13 +218,23 @@ pub fn same_file(input: &str, output: &str) -> bool {
     }
 }
 
-fn not_text(path: &str, error: FromUtf8Error) -> Fault {
+/// Whether two names to write to are of one file, also where it is not there yet.
+pub fn same_place(one: &str, other: &str) -> bool {
+    let place = |path: &str| {
+        let path = Path::new(path);
+        let directory = path.parent().filter(|parent| *parent != Path::new(""));
+        let directory = fs::canonicalize(directory.unwrap_or(Path::new("."))).ok()?;
+        Some(directory.join(path.file_name()?))
+    };
+    same_file(one, other) || place(one).is_some_and(|one| place(other) == Some(one))
+}
+
+fn not_text(path: &str, error: FromUtf8Error, help: &str) -> Fault {
     let sound = error.utf8_error().valid_up_to();
     let lead = String::from_utf8_lossy(&error.as_bytes()[..sound]);
     let line = lead.matches('\n').count() + 1;
     let column = lead.chars().rev().take_while(|&c| c != '\n').count() + 1;
     let what = "a byte that is not UTF-8 text";
-    let help = "save the program as UTF-8; the name of an image ends in .img";
     let flaw = Flaw::new(
         Span {
             line,

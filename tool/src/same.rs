@@ -33,7 +33,7 @@ pub fn compare(one: &Loaded, other: &Loaded) -> Result<Verdict, Fault> {
         text += &differences(&sides);
     }
     let texts = !one.from_image() && !other.from_image();
-    if same && texts && filed(one)?.image != filed(other)?.image {
+    if same && texts && filed(one)?.loaded.image != filed(other)?.loaded.image {
         text += "note: their images differ: `:- atoms` numbers their atoms differently\n";
     }
     Ok(Verdict {
@@ -47,8 +47,9 @@ fn same_atoms(sides: &[Side; 2]) -> bool {
 }
 
 fn file(side: &Side) -> Result<Vec<u8>, Fault> {
-    let form = engine::file(&encode(&side.program));
-    form.map_err(|refusal| side.loaded.refused(refusal))
+    let filed = engine::file(&encode(&side.program));
+    let filed = filed.map_err(|refusal| side.loaded.refused(refusal))?;
+    Ok(filed.image)
 }
 
 /// Both programs with one numbering of their atoms, and a note where it is not plain which: the atoms of two texts are

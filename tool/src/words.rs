@@ -19,7 +19,7 @@ pub struct Form {
     places: usize,
     options: &'static [&'static str],
     flags: &'static [&'static str],
-    page: &'static str,
+    pub page: &'static str,
 }
 
 pub fn form(

@@ -398,7 +398,7 @@ fn a_text_in_the_place_of_an_image_is_told() {
         assert!(ran.status == 1 && ran.err.ends_with(help), "{}", ran.err);
     }
     let ran = common::run(&["show", "shop.delp"]);
-    let help = "\n help: this is a text; `show` reads an image\n";
+    let help = "\n help: this is a text; an image is needed here\n";
     assert!(ran.status == 1 && ran.err.ends_with(help), "{}", ran.err);
 }
 

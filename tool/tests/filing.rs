@@ -3,40 +3,24 @@
 mod common;
 
 use std::fs;
-use std::path::PathBuf;
 
-use common::{run, run_with_input, Random};
+use common::{loaded, of_image, programs, run, run_with_input, shuffle, Random};
 use foqtirel::load::{load_text, Loaded};
 use foqtirel::program::Program;
 use foqtirel::{engine, filing, image, same};
 
-fn loaded(text: &str) -> Loaded {
-    let (image, program, source) =
-        load_text(text).unwrap_or_else(|flaw| panic!("{flaw:?}: {text}"));
-    Loaded {
-        image,
-        program,
-        source: Some(source),
-        name: "typed.delp".to_string(),
-        notes: String::new(),
-    }
+fn filed_image(loaded: &Loaded) -> Vec<u8> {
+    let filed = filing::filed(loaded).map_err(|fault| fault.render());
+    filed.unwrap().loaded.image
 }
 
-fn of_image(bytes: &[u8]) -> Loaded {
-    Loaded {
-        image: bytes.to_vec(),
-        program: image::decode(bytes).unwrap(),
-        source: None,
-        name: "typed.img".to_string(),
-        notes: String::new(),
-    }
+/// The engine's filed form.
+fn form(image: &[u8]) -> Vec<u8> {
+    engine::file(image).unwrap().image
 }
 
 fn filed(text: &str) -> Vec<u8> {
-    filing::filed(&loaded(text))
-        .map_err(|fault| fault.render())
-        .unwrap()
-        .image
+    filed_image(&loaded(text))
 }
 
 fn holds_same(one: &Loaded, other: &Loaded) -> bool {
@@ -52,12 +36,6 @@ fn holds_same(one: &Loaded, other: &Loaded) -> bool {
         verdict.text
     );
     verdict.same
-}
-
-fn shuffle<T>(random: &mut Random, list: &mut [T]) {
-    for last in (1..list.len()).rev() {
-        list.swap(last, random.below(last + 1));
-    }
 }
 
 /// A program as some branch types it: rules, preferences and bodies in any order, labels of its own. Only atoms in no rule
@@ -90,21 +68,6 @@ fn typed(program: &Program, branch: char, random: &mut Random) -> String {
         statements.insert(0, format!(":- atoms {}.", unused.join(", ")));
     }
     statements.join("\n")
-}
-
-/// Random programs that the engine accepts, with names that don't ascend with the numbers.
-fn programs(random: &mut Random, count: usize) -> Vec<Program> {
-    let mut programs = Vec::new();
-    while programs.len() < count {
-        let mut program = common::program(random);
-        if engine::check(&image::encode(&program)).is_ok() {
-            for (atom, name) in program.atoms.iter_mut().enumerate() {
-                *name = format!("{}_{atom}", ["rail", "base", "tilt"][atom % 3]);
-            }
-            programs.push(program);
-        }
-    }
-    programs
 }
 
 #[test]
@@ -166,8 +129,7 @@ fn a_change_is_seen_in_any_order() {
             let images = [&program, &other].map(|program| of_image(&image::encode(program)));
             assert!(!holds_same(&images[0], &images[1]));
             let typed = loaded(&typed(&program, 'x', &mut random));
-            let [made, form] =
-                [&typed.image, &filing::filed(&typed).ok().unwrap().image].map(|i| of_image(i));
+            let [made, form] = [&typed.image, &filed_image(&typed)].map(|i| of_image(i));
             assert!(holds_same(&typed, &made) && holds_same(&form, &typed));
             seen += 1;
         }
@@ -193,8 +155,7 @@ fn what_is_found_is_what_the_engine_says() {
             let none = found
                 .iter()
                 .all(|only| only.rules.is_empty() && only.pairs.is_empty());
-            let [one, two] =
-                [&program, &other].map(|program| engine::file(&image::encode(program)));
+            let [one, two] = [&program, &other].map(|program| form(&image::encode(program)));
             assert_eq!(none, one == two, "{found:?}");
             equal += usize::from(none);
             differ += usize::from(!none);
@@ -228,27 +189,24 @@ fn a_shown_image_is_filed_as_the_image() {
         for program in programs(&mut random, 400) {
             let bytes = image::encode(&program);
             let shown = image::decode(&bytes).unwrap().text();
-            let form = engine::file(&bytes).unwrap();
+            let form = form(&bytes);
             assert_eq!(filed(&shown), form);
-            assert_eq!(filing::filed(&of_image(&bytes)).ok().unwrap().image, form);
+            assert_eq!(filed_image(&of_image(&bytes)), form);
         }
     });
 }
 
-fn write(name: &str, bytes: impl AsRef<[u8]>) -> String {
-    let path = path(name);
-    fs::write(&path, bytes).unwrap();
-    path.to_str().unwrap().to_string()
+fn path(name: &str) -> String {
+    common::path("filing", name)
 }
 
-fn path(name: &str) -> PathBuf {
-    common::scratch("filing").join(name)
+fn write(name: &str, bytes: impl AsRef<[u8]>) -> String {
+    common::write("filing", name, bytes)
 }
 
 #[test]
 fn file_tells_what_it_wrote() {
-    let out = path("shop.img");
-    let out = out.to_str().unwrap();
+    let out = &path("shop.img");
     let ran = run(&["file", "shop.delp", "-o", out]);
     let told = format!("{out}: 169 bytes, 12 atoms, 22 rules (8 defeasible), 3 pairs\n");
     assert_eq!(
@@ -256,45 +214,37 @@ fn file_tells_what_it_wrote() {
         (0, told.clone(), String::new())
     );
     let form = fs::read(out).unwrap();
-    assert_eq!(engine::file(&form).as_ref(), Ok(&form));
+    assert_eq!(self::form(&form), form);
 
     // An image that is filed already is told as such, and written all the same.
     let again = path("again.img");
-    let ran = run(&["file", out, "-o", again.to_str().unwrap()]);
+    let ran = run(&["file", out, "-o", &again]);
     let note = format!("note: {out} was in filed form already\n");
-    let told = told.replace(out, again.to_str().unwrap());
+    let told = told.replace(out, &again);
     assert_eq!((ran.status, ran.out), (0, told + &note));
     assert_eq!(fs::read(again).unwrap(), form);
 
     // Another order is not.
-    let compiled = path("compiled.img");
-    let compiled = compiled.to_str().unwrap();
+    let compiled = &path("compiled.img");
     assert_eq!(run(&["compile", "shop.delp", "-o", compiled]).status, 0);
-    let other = path("other.img");
-    let other = other.to_str().unwrap();
+    let other = &path("other.img");
     let ran = run(&["file", compiled, "-o", other]);
     assert!(
         ran.status == 0 && ran.out.lines().count() == 1,
         "{}",
         ran.out
     );
-    let wanted = engine::file(&fs::read(compiled).unwrap()).unwrap();
+    let wanted = self::form(&fs::read(compiled).unwrap());
     assert_eq!(fs::read(other).unwrap(), wanted);
 
-    let ran = run(&[
-        "file",
-        "shop.delp",
-        "-o",
-        path("shop.bin").to_str().unwrap(),
-    ]);
+    let ran = run(&["file", "shop.delp", "-o", &path("shop.bin")]);
     assert!(ran.out.ends_with("is read as an image\n"), "{}", ran.out);
 }
 
 /// Each literal of the text has its answer under the number that `--names` tells.
 #[test]
 fn the_names_are_those_of_the_filed_image() {
-    let out = path("names.img");
-    let out = out.to_str().unwrap();
+    let out = &path("names.img");
     let told = run(&["file", "shop.delp", "--names"]).out;
     let both = run(&["file", "shop.delp", "--names", "-o", out]).out;
     assert_eq!(both.split_once('\n').unwrap().1, told);
@@ -316,8 +266,7 @@ fn the_names_are_those_of_the_filed_image() {
 /// Nothing is written where there is an error, and statuses are those of the other commands.
 #[test]
 fn file_refuses_what_compile_refuses() {
-    let out = path("none.img");
-    let out = out.to_str().unwrap();
+    let out = &path("none.img");
     let _ = fs::remove_file(out);
     let contradictory = write("clash.delp", "a.\n~a.\n");
     let flawed = write("flawed.delp", "a b.\n");
@@ -337,7 +286,7 @@ fn file_refuses_what_compile_refuses() {
             ran.err
         );
         assert!(ran.err.contains(told), "{file}: {}", ran.err);
-        assert!(!path("none.img").exists());
+        assert!(!fs::exists(out).unwrap());
     }
     let program = write(
         "self.img",
@@ -400,8 +349,7 @@ fn texts_are_matched_by_name() {
 #[test]
 fn images_are_matched_by_number() {
     let vector = |name: &str| format!("../tests/vectors/{name}.img");
-    let form = path("T.img");
-    let form = form.to_str().unwrap();
+    let form = &path("T.img");
     assert_eq!(run(&["file", &vector("T"), "-o", form]).status, 0);
     let size = "4 atoms, 10 rules (3 defeasible), 0 pairs";
     let told = format!("a and b hold the same: {size}\n");
@@ -432,8 +380,7 @@ fn a_text_and_an_image() {
     let note = |command: &str, file: char| {
         format!("note: an image has no names: atoms are matched by the numbers that `{command}` gives those of {file}\n")
     };
-    let image = path("mixed.img");
-    let image = image.to_str().unwrap();
+    let image = &path("mixed.img");
     for command in ["file", "compile"] {
         assert_eq!(run(&[command, &text, "-o", image]).status, 0);
         let told = format!("a and b hold the same: {SIZE}\n");
@@ -495,7 +442,7 @@ fn standard_input_is_a_text_like_others() {
         );
     }
     let out = path("input.img");
-    let ran = run_with_input(&["file", "-", "-o", out.to_str().unwrap()], &shop);
+    let ran = run_with_input(&["file", "-", "-o", &out], &shop);
     assert_eq!((ran.status, ran.err.as_str()), (0, ""));
     assert_eq!(
         fs::read(out).unwrap(),

@@ -1,3 +1,4 @@
--- The calls, in the order of document 01; then the causes that turn them away.
+-- The calls, in the order of document 01; the causes that turn them away; and what is claimed of those that fill byte tables.
 pub mod Calls
 pub mod Causes
+pub mod Filling

@@ -29,6 +29,10 @@ pub enum Written {
 // The causes that are such a call's own, beside those of the image.
 impl Written {
     pub const OUTPUT_TABLE: u32 = 24;
+
+    pub const NUMBER_TABLE: u32 = 25;
+
+    pub const MISFILED: u32 = 26;
 }
 
 // The first of causes 1 to 14 that applies to an image.

@@ -12,17 +12,17 @@ use Rattle.lists.proofs.Stores.{written-append}
 use Rattle.program.specs.Program.{Rule, Program, ruleAt}
 use Rattle.layout.specs.Layout.{atomsOf, rulesOf, pairsOf, partOf}
 use Rattle.layout.specs.Reading.{programIn}
-use Rattle.writing.specs.Image.{ruleBytes, pairBytes, partsOf, directory, together, headerBytes, imageOf}
+use Rattle.writing.specs.Image.{Bytes, ruleBytes, pairBytes, partsOf, directory, together, headerBytes, imageOf}
 use Rattle.writing.specs.inside.Steps.{PartsAt, Numbers, partsBy, entryBytes}
 use Rattle.writing.proofs.Reading.{image-length}
-use Rattle.writing.proofs.Written.{Bytes, rule-count, pair-count, image-as-long, header-written}
+use Rattle.writing.proofs.Written.{rule-count, pair-count, image-as-long, header-written}
 use Rattle.writing.proofs.Accepting.{image-short, pair-bytes-length}
 use Rattle.writing.proofs.Outputs.{together-append, directory-append}
 use Rattle.filing.specs.Filed.{ordered}
 use Rattle.filing.specs.Claims.{AcceptedImage}
 use Rattle.filing.proofs.Orders.{ordered-length}
 use Rattle.filing.proofs.Images.{pairs-count, ordered-image-length}
-use Rattle.filing.proofs.Filed.{reads, writable, wellformed}
+use Rattle.filing.proofs.Reordering.{reads, writable, wellformed}
 use Rattle.filer.proofs.Rules.{rule-of, accepted-ruled, numbering-table}
 
 map-bytes : (s : List ℕ) (rules : List Rule) (l : List ℕ) → ((i : ℕ) → List·Memᴰ i l → ruleBytes (ruleAt rules i) ≡ partOf s i)

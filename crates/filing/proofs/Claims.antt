@@ -1,158 +1,148 @@
--- What is claimed of filed images and of the call that writes them holds.
-use mathlib.Core.Path.{_≡_, refl, sym, ap, ap₂, _∙_, subst, subst₂}
-use mathlib.Core.Bool.{Bool, true, false}
+-- What is claimed of filed images, of the way back, and of the calls that write them holds.
+use mathlib.Core.Path.{_≡_, sym, ap, _∙_, subst}
 use mathlib.Core.List.{List}
-use mathlib.Core.Logic.{_↔_, inl, inr}
-use Prim.Native.Nat.{ℕ, _≤_, _<_}
+use Prim.Native.Nat.{ℕ, _≤_}
 use native.Mathlib.Omega.{arith}
-use lib.Dec.{ltb, ltb→lt, lt→ltb}
-use lib.ListN.{length, take, drop}
-use lib.Seq.{take-at, drop-at}
-use borrow.Author.Tests.{ltb-false, le-ltb}
+use lib.ListN.{length, take}
+use Rattle.lists.specs.inside.Numbering.{Numbering}
 use Rattle.layout.specs.declared.Verdict.{Verdict}
-use Rattle.layout.specs.declared.Verdict.the-variants.{Accepted, Refused}
-use Rattle.layout.specs.Causes.{refuse, andThen}
-use Rattle.image.proofs.Accepted.{then-left, then-right, refuse-not}
+use Rattle.layout.specs.declared.Verdict.the-variants.{Accepted}
+use Rattle.layout.specs.Layout.{rulesOf}
+use Rattle.writing.specs.Image.{Bytes}
+use Rattle.writing.proofs.Written.{rule-count}
 use Rattle.calls.specs.declared.Written.the-variants as written
-use Rattle.calls.specs.Calls.{checkImage, front, unlessRefused, writtenBy, writtenNumber, Carries}
-use Rattle.calls.specs.Causes.{ImageCause, Judged}
-use Rattle.calls.proofs.Verdicts.{Either, Only, judged-one, judged-then, judged-same, only-spans, late-cut, unless-length, Sited, judged-once}
-use Rattle.calls.proofs.Refusals.{image-span, image-sited, check-judged, check-refused}
-use Rattle.filing.specs.Calls.{filedImage, fileVerdict, filedBy, fileTable, fileCall, FileCause, of-image, output}
-use Rattle.filing.specs.Claims.{AcceptedImage, Filing}
-use Rattle.filing.proofs.Filed.{long, files, files-same, filed-short}
+use Rattle.calls.specs.Calls.{front, unlessRefused}
+use Rattle.calls.specs.Filling.{Returns, Fills}
+use Rattle.calls.proofs.Filling.{returns, fills}
+use Rattle.filing.specs.Calls.{filedImage, oldNumbers, fileVerdict, filedBy, fileTable, fileNumbers, fileCall, FileCause}
+use Rattle.filing.specs.Calls.{numbersOf, typedImage, unfileVerdict, unfiledBy, unfileTable, unfileCall, UnfileCause}
+use Rattle.filing.specs.Claims.{AcceptedImage, Writes, WritesBack, formLeft, numbersLeft, RoundTrip, Filing}
+use Rattle.filing.proofs.Reordering.{reads}
+use Rattle.filing.proofs.Filed.{long, filed-count, old-numbering, numbers-long, files, files-same, filed-short}
+use Rattle.filing.proofs.Typed.{typed-long, typed-short, returned, in-form, typed-again}
+use Rattle.filing.proofs.Refusals.{file-judged, file-small, file-accepted, file-writes, unfile-judged, unfile-small, unfile-accepted, unfile-writes}
 
--- ---- results of calls that fill a byte table, by their verdict
+-- ---- the writer
 
-hands-back : (v : Verdict) (n number place : ℕ) → place < 0x1_0000_0000 → v ≡ Refused number place
-    → (writtenBy v n ≡ written.Refused number place) × Carries (writtenNumber (writtenBy v n)) number place
-hands-back v n number place small e = (
-  ap (λ (w : Verdict). writtenBy w n) e,
-  subst (λ (w : Verdict). Carries (writtenNumber (writtenBy w n)) number place) (sym e) (omega arith, omega arith),
-)
+module _ (s table numbers : List ℕ) where
+  abbrev room : ℕ
+  room = length table
 
-tells : (v : Verdict) (n : ℕ) → (v ≡ Accepted → n < 0x1_0000_0000)
-    → ((number place : ℕ) → v ≡ Refused number place → 1 ≤ number)
-    → (v ≡ Accepted) ↔ (writtenNumber (writtenBy v n) < 0x1_0000_0000)
-tells Accepted n small some = (λ e. omega (arith, small refl), λ h. refl)
-tells (Refused number place) n small some = (
-  λ e. absurd (let z : _≡_ {A = ℕ} 0 1 = cc in omega arith),
-  λ h. absurd (omega (arith, some number place refl)),
-)
+  abbrev numberRoom : ℕ
+  numberRoom = length numbers
 
--- ---- the writer of the filed form
+  file-result : Returns (FileCause s room numberRoom) (fileVerdict s room numberRoom) (length (filedImage s)) (filedBy s room numberRoom) (fileCall s room numberRoom)
+  unfolding filedBy
+  file-result =
+      returns (FileCause s room numberRoom) (fileVerdict s room numberRoom) (length (filedImage s)) (file-judged s room numberRoom)
+      (λ e. omega (arith, filed-short s (file-accepted s room numberRoom e .0))) (file-small s room numberRoom)
 
-module _ (s : List ℕ) (room : ℕ) where
-  cause-of : (n p : ℕ) → Either (ImageCause s) (Only (ltb room (length s)) 24 0) n p → FileCause s room n p
-  cause-of n p (inl c) = of-image c
-  cause-of n p (inr (e, f, t)) = subst₂ (FileCause s room) (sym e) (sym f) (output (ltb→lt room (length s) t))
+  file-form : Fills (fileVerdict s room numberRoom) (filedImage s) table (fileTable s table numberRoom)
+  unfolding fileTable
+  file-form =
+      fills (fileVerdict s room numberRoom) (filedImage s) table
+      (λ e. let r = file-accepted s room numberRoom e in omega (arith, long s (r .0), r .1))
 
-  of-cause : (n p : ℕ) → FileCause s room n p → Either (ImageCause s) (Only (ltb room (length s)) 24 0) n p
-  of-cause n p (of-image c) = inl c
-  of-cause n p (output h) = inr (refl, refl, lt→ltb room (length s) h)
+  file-old : Fills (fileVerdict s room numberRoom) (oldNumbers s) numbers (fileNumbers s room numbers)
+  unfolding fileNumbers
+  file-old =
+      fills (fileVerdict s room numberRoom) (oldNumbers s) numbers
+      (λ e. let r = file-accepted s room numberRoom e in omega (arith, numbers-long s (r .0), r .2))
 
-  file-judged : Judged (FileCause s room) (fileVerdict s room)
-  unfolding fileVerdict
-  file-judged =
-      judged-same cause-of of-cause
-      (judged-then
-      (late-cut 0 14 24 (inr (omega arith), inr (omega arith)) (image-span s)
-      (only-spans (ltb room (length s)) 24 0 14 24 (omega arith) (omega arith)))
-      (check-judged s) (λ e. judged-one (ltb room (length s)) 24 0))
+  writes : Writes s table numbers
+  writes = record { result = file-result; form = file-form; old = file-old; room-enough = file-writes s room numberRoom }
 
-  file-sited : Sited (FileCause s room)
-  file-sited n p (of-image c) = image-sited s n p c
-  file-sited n p (output h) = inr refl
+-- ---- the way back
 
-  -- and no other verdict is judged so
-  pub file-only : (v : Verdict) → Judged (FileCause s room) v → v ≡ fileVerdict s room
-  file-only v j = judged-once file-sited j file-judged
+module _ (s numbers table : List ℕ) where
+  unfile-result : Returns (UnfileCause s numbers (length table)) (unfileVerdict s numbers (length table)) (length (typedImage s numbers)) (unfiledBy s numbers (length table)) (unfileCall s numbers (length table))
+  unfolding unfiledBy
+  unfile-result =
+      returns (UnfileCause s numbers (length table)) (unfileVerdict s numbers (length table)) (length (typedImage s numbers))
+      (unfile-judged s numbers (length table))
+      (λ e. let r = unfile-accepted s numbers (length table) e in omega (arith, typed-short s numbers (r .0) (r .3)))
+      (unfile-small s numbers (length table))
 
-  pub file-accepted : fileVerdict s room ≡ Accepted → (checkImage s ≡ Accepted) × (length s ≤ room)
-  unfolding fileVerdict
-  file-accepted e = (
-    then-left (checkImage s) (refuse (ltb room (length s)) 24 0) e,
-    ltb-false room (length s) (refuse-not (ltb room (length s)) 24 0 (then-right (checkImage s) _ e)),
-  )
+  unfile-form : Fills (unfileVerdict s numbers (length table)) (typedImage s numbers) table (unfileTable s numbers table)
+  unfolding unfileTable
+  unfile-form =
+      fills (unfileVerdict s numbers (length table)) (typedImage s numbers) table
+      (λ e. let r = unfile-accepted s numbers (length table) e in omega (arith, typed-long s numbers (r .0) (r .3), r .1))
 
-  file-refused : (number place : ℕ) → fileVerdict s room ≡ Refused number place → (1 ≤ number) × (place < 240)
-  unfolding fileVerdict
-  file-refused number place e = go (checkImage s) refl (ltb room (length s)) e
+  writes-back : WritesBack s numbers table
+  writes-back = record {
+    result = unfile-result;
+    form = unfile-form;
+    of-result = λ e. let r = unfile-accepted s numbers (length table) e in returned s numbers (r .0) (r .3) (r .4);
+  }
+
+-- what the tables are where nothing is refused
+module _ (s table numbers : List ℕ) (e : fileVerdict s (length table) (length numbers) ≡ Accepted) where
+  pub file-fills : fileTable s table (length numbers) ≡ front (filedImage s) table
+  unfolding fileTable
+  file-fills = ap (λ (v : Verdict). unlessRefused v (front (filedImage s) table) table) e
+
+  pub file-numbers : fileNumbers s (length table) numbers ≡ front (oldNumbers s) numbers
+  unfolding fileNumbers
+  file-numbers = ap (λ (v : Verdict). unlessRefused v (front (oldNumbers s) numbers) numbers) e
+
+pub unfile-fills : (s numbers table : List ℕ) → unfileVerdict s numbers (length table) ≡ Accepted
+    → unfileTable s numbers table ≡ front (typedImage s numbers) table
+unfolding unfileTable
+unfile-fills s numbers table e = ap (λ (v : Verdict). unlessRefused v (front (typedImage s numbers) table) table) e
+
+-- ---- there and back
+
+module _ (s table numbers given back : List ℕ) (a : AcceptedImage s) (b : Bytes s) (h : length s ≤ length table) (k : rulesOf s ≤ length numbers)
+    (m : length s ≤ length back) (g : rulesOf s ≤ length given) (same : take (rulesOf s) given ≡ numbersLeft s table numbers) where
+  accepts : fileVerdict s (length table) (length numbers) ≡ Accepted
+  accepts = file-writes s (length table) (length numbers) a h k
+
+  form-is : formLeft s table numbers ≡ filedImage s
+  form-is = ap (λ (n : ℕ). take n (fileTable s table (length numbers))) (sym (long s a)) ∙ file-form s table numbers .front-written accepts
+
+  rules-kept : rulesOf (filedImage s) ≡ rulesOf s
+  rules-kept = sym (rule-count (filedImage s) (reads (filedImage s) (files s a .accepted))) ∙ filed-count s a
+
+  given-are : numbersOf (filedImage s) given ≡ oldNumbers s
+  given-are =
+      ap (λ (n : ℕ). take n given) rules-kept
+      ∙ same
+      ∙ ap (λ (n : ℕ). take n (fileNumbers s (length table) numbers)) (sym (numbers-long s a))
+      ∙ file-old s table numbers .front-written accepts
+
+  back-accepts : unfileVerdict (filedImage s) given (length back) ≡ Accepted
+  back-accepts =
+      unfile-writes (filedImage s) given (length back) (files s a .accepted) (omega (arith, long s a)) (omega (arith, rules-kept))
+      (subst (λ (l : List ℕ). Numbering (rulesOf (filedImage s)) l) (sym given-are)
+      (subst (λ (n : ℕ). Numbering n (oldNumbers s)) (sym rules-kept) (old-numbering s a)))
+      (files s a .in-form .rules-ascend)
+
+  typed-is : typedImage (filedImage s) given ≡ s
+  typed-is = typed-again s a b given given-are
+
+  round-trip : RoundTrip s table numbers given back
+  round-trip = record {
+    there = let r = file-result s table numbers .writes accepts in (r .0 ∙ ap written.Length (long s a), r .1 ∙ long s a);
+    and-back = subst (λ (l : List ℕ). (unfiledBy l given (length back) ≡ written.Length (length s)) × (unfileCall l given (length back) ≡ length s)) (sym form-is) back-result;
+    exact = ap (λ (l : List ℕ). unfileTable l given back) form-is ∙ back-table;
+  }
     where
-      go : (v : Verdict) → checkImage s ≡ v → (b : Bool) → andThen v (refuse b 24 0) ≡ Refused number place
-          → (1 ≤ number) × (place < 240)
-      go (Refused n p) c b h =
-          let r = check-refused s n p c in
-          let x : n ≡ number = cc in
-          let y : p ≡ place = cc in
-          (omega (arith, r .0), omega (arith, r .2))
-      go Accepted c true h =
-          let x : 24 ≡ number = cc in
-          let y : 0 ≡ place = cc in
-          (omega arith, omega arith)
-      go Accepted c false h = absurd (let z : _≡_ {A = ℕ} 0 1 = cc in omega arith)
+      back-result : (unfiledBy (filedImage s) given (length back) ≡ written.Length (length s)) × (unfileCall (filedImage s) given (length back) ≡ length s)
+      back-result =
+          let r = unfile-result (filedImage s) given back .writes back-accepts in
+          let l = ap (λ (i : List ℕ). length i) typed-is in
+          (r .0 ∙ ap written.Length l, r .1 ∙ l)
 
-  file-hands-back : (number place : ℕ) → fileVerdict s room ≡ Refused number place
-      → (filedBy s room ≡ written.Refused number place) × Carries (fileCall s room) number place
-  unfolding filedBy
-  file-hands-back number place e =
-      hands-back (fileVerdict s room) (length (filedImage s)) number place (omega (arith, file-refused number place e .1)) e
-
-  file-told : (fileVerdict s room ≡ Accepted) ↔ (fileCall s room < 0x1_0000_0000)
-  unfolding filedBy
-  file-told =
-      tells (fileVerdict s room) (length (filedImage s))
-      (λ e. omega (arith, filed-short s (file-accepted e .0))) (λ number place e. file-refused number place e .0)
-
-  module _ (a : AcceptedImage s) (h : length s ≤ room) where
-    pub file-writes : fileVerdict s room ≡ Accepted
-    unfolding fileVerdict
-    file-writes = ap₂ andThen a (ap (λ (b : Bool). refuse b 24 0) (le-ltb room (length s) h))
-
-    file-length : (filedBy s room ≡ written.Length (length s)) × (fileCall s room ≡ length s)
-    unfolding filedBy
-    file-length = (result, omega (arith, ap writtenNumber result))
-      where
-        result : writtenBy (fileVerdict s room) (length (filedImage s)) ≡ written.Length (length s)
-        result = ap₂ writtenBy file-writes (long s a)
-
-module _ (s table : List ℕ) where
-  file-left : (number place : ℕ) → fileVerdict s (length table) ≡ Refused number place → fileTable s table ≡ table
-  unfolding fileTable
-  file-left number place e = ap (λ (v : Verdict). unlessRefused v (front (filedImage s) table) table) e
-
-  file-table-length : length (fileTable s table) ≡ length table
-  unfolding fileTable
-  file-table-length =
-      unless-length (fileVerdict s (length table)) (filedImage s) table
-      (λ e. let r = file-accepted s (length table) e in omega (arith, r .1, long s (r .0)))
-
-  module _ (a : AcceptedImage s) (h : length s ≤ length table) where
-    pub file-fills : fileTable s table ≡ front (filedImage s) table
-    unfolding fileTable
-    file-fills = ap (λ (v : Verdict). unlessRefused v (front (filedImage s) table) table) (file-writes s (length table) a h)
-
-    file-front : take (length s) (fileTable s table) ≡ filedImage s
-    file-front = ap (take (length s)) file-fills ∙ take-at (filedImage s) (drop (length (filedImage s)) table) (length s) (long s a)
-
-    file-past : drop (length s) (fileTable s table) ≡ drop (length s) table
-    file-past =
-        ap (drop (length s)) file-fills
-        ∙ drop-at (filedImage s) (drop (length (filedImage s)) table) (length s) (long s a)
-        ∙ ap (λ (n : ℕ). drop n table) (long s a)
+      back-table : unfileTable (filedImage s) given back ≡ front s back
+      back-table = unfile-fills (filedImage s) given back back-accepts ∙ ap (λ (l : List ℕ). front l back) typed-is
 
 pub filing : Filing
 filing = record {
   of-each = files;
   of-two = files-same;
-  of-call = record {
-    judged = file-judged;
-    refused = file-hands-back;
-    told = file-told;
-    left = file-left;
-    table-length = file-table-length;
-    written-length = file-length;
-    front-written = file-front;
-    past-kept = file-past;
-  };
+  in-form = in-form;
+  of-file = writes;
+  of-unfile = writes-back;
+  there-and-back = round-trip;
 }

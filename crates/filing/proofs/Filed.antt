@@ -1,164 +1,107 @@
 -- What is claimed of the filed form of an accepted image holds.
-use mathlib.Core.Path.{_≡_, sym, ap, ap₂, _∙_, subst}
-use mathlib.Core.Bool.{Bool}
+use mathlib.Core.Path.{_≡_, sym, ap, _∙_, subst}
 use mathlib.Core.List.{List}
 use mathlib.Core.Logic.{_↔_}
-use Prim.Native.Nat.{ℕ, _<_, _≤_, _/_, _%_}
+use Prim.Native.Nat.{ℕ, _<_, _≤_}
 use native.Mathlib.Omega.{arith}
-use lib.Dec.{ltb, leb}
 use lib.ListN.{length, getD}
 use Rattle.lists.specs.Sorting.{Sorted}
-use Rattle.program.specs.Program.{Program, Π}
-use Rattle.layout.specs.declared.Verdict.{Verdict}
+use Rattle.program.specs.Program.{Rule, Program, fact, ruleAt}
 use Rattle.layout.specs.declared.Verdict.the-variants.{Accepted}
-use Rattle.layout.specs.Layout.{byteAt}
-use Rattle.layout.specs.Causes.{refuse, andThen, verdict}
+use Rattle.layout.specs.Layout.{rulesOf}
 use Rattle.layout.specs.Reading.{programIn}
-use Rattle.image.proofs.Accepted.{then-left, then-right, accepted-limits}
-use Rattle.derivation.specs.Derivation.{HeadsBelow}
-use Rattle.derivation.specs.Closure.{contradictory}
-use Rattle.argument.specs.List.{argumentList}
-use Rattle.lists.specs.Lists.{indexIn}
-use Rattle.answer.specs.Answer.{nodeCount, tests, answer, codeOf, nodesOf}
-use Rattle.calls.specs.Calls.{checkImage, listIn, listVerdict, listedBy, listed, listedNumber, queryVerdict, answeredBy, queried, packed, hostCall}
-use Rattle.calls.specs.Calls.{treesCall, answeredNumber, Call, query, host, trees, verdictOf, codeFrom, nodesFrom}
-use Rattle.renaming.specs.Programs.{Renumbered}
-use Rattle.renaming.proofs.Arguments.{lists-length, strict-contradictory-to}
-use Rattle.renaming.proofs.Answers.{nodes-same, answers-same}
-use Rattle.writing.specs.Image.{imageOf, pairKey}
-use Rattle.writing.specs.inside.Writable.{Writable}
+use Rattle.calls.specs.Calls.{checkImage}
+use Rattle.writing.specs.Image.{Bytes, imageOf, pairKey}
 use Rattle.writing.proofs.Reading.{image-program}
-use Rattle.writing.proofs.Written.{image-as-long}
-use Rattle.writing.proofs.Accepting.{image-accepted, image-short}
-use Rattle.writing.proofs.Holding.{accepted-writable}
-use Rattle.writing.proofs.Bytes.{image-bytes}
+use Rattle.writing.proofs.Written.{rule-count}
 use Rattle.filing.specs.Filed.{ruleKey, filedOrder, filed}
 use Rattle.filing.specs.Content.{SameContent}
-use Rattle.filing.specs.inside.Wellformed.{Wellformed}
 use Rattle.lists.specs.inside.Numbering.{Numbering}
-use Rattle.filing.specs.Calls.{filedImage}
-use Rattle.filing.specs.Claims.{AcceptedImage, Files}
-use Rattle.filing.proofs.Contents.{filed-numbering, filed-renumbered, filed-rules-sorted, filed-pairs-sorted, filed-content, filed-same, filed-twice}
-use Rattle.filing.proofs.Images.{writable-wellformed, ordered-writable, ordered-image-length}
+use Rattle.lists.proofs.Numberings.{numbering-length}
+use Rattle.lists.proofs.Places.{there, getD-map}
+use Rattle.filing.proofs.Orders.{ordered-rules, ordered-length}
+use Rattle.filing.specs.Calls.{filedImage, oldNumbers, FiledForm}
+use Rattle.filing.specs.Claims.{AcceptedImage, AnsweredAs, Files}
+use Rattle.filing.proofs.Reordering.{reads, wellformed, moved-accepted, moved-bytes, moved-long, moved-short, moved-answered}
+use Rattle.filing.proofs.Contents.{filed-numbering, filed-rules-sorted, filed-pairs-sorted, filed-content, filed-same, filed-twice}
 
 module _ (s : List ℕ) (a : AcceptedImage s) where
-  pub reads : verdict s ≡ Accepted
-  unfolding checkImage
-  reads = then-left (verdict s) (refuse (contradictory (Π (programIn s .rules))) 14 0) a
-
-  coherent : refuse (contradictory (Π (programIn s .rules))) 14 0 ≡ Accepted
-  unfolding checkImage
-  coherent = then-right (verdict s) (refuse (contradictory (Π (programIn s .rules))) 14 0) a
-
-  pub writable : Writable (programIn s)
-  writable = accepted-writable s reads
-
-  pub wellformed : Wellformed (programIn s)
-  wellformed = writable-wellformed (programIn s) writable
-
   pub numbering : Numbering (length (programIn s .rules)) (filedOrder (programIn s .rules))
-  numbering = filed-numbering (programIn s) wellformed
-
-  heads : HeadsBelow 128 (programIn s .rules)
-  heads r i = let l = accepted-limits s reads in omega (arith, l .heads-below r i, l .atoms-limit)
-
-  renumbered : Renumbered (programIn s) (filed (programIn s)) (indexIn (filedOrder (programIn s .rules))) (λ j. getD (filedOrder (programIn s .rules)) j 0)
-  renumbered = filed-renumbered (programIn s) wellformed
-
-  filed-writable : Writable (filed (programIn s))
-  unfolding filed
-  filed-writable = ordered-writable (programIn s) (filedOrder (programIn s .rules)) numbering writable
+  numbering = filed-numbering (programIn s) (wellformed s a)
 
   pub holds : programIn (filedImage s) ≡ filed (programIn s)
   unfolding filedImage
   holds = image-program (filed (programIn s))
 
   filed-accepted : checkImage (filedImage s) ≡ Accepted
-  unfolding checkImage filedImage
-  filed-accepted =
-      ap₂ andThen (image-accepted (filed (programIn s)) filed-writable)
-      (ap (λ (b : Bool). refuse b 14 0)
-      (ap (λ (p : Program). contradictory (Π (p .rules))) holds ∙ sym (strict-contradictory-to renumbered))
-      ∙ coherent)
+  unfolding filedImage filed
+  filed-accepted = moved-accepted s a (filedOrder (programIn s .rules)) numbering
 
-  filed-bytes : (i : ℕ) → byteAt (filedImage s) i < 256
-  unfolding filedImage
-  filed-bytes = image-bytes (filed (programIn s)) filed-writable
+  filed-bytes : Bytes (filedImage s)
+  unfolding filedImage filed
+  filed-bytes = moved-bytes s a (filedOrder (programIn s .rules)) numbering
 
   pub filed-short : length (filedImage s) ≤ 1836
-  unfolding filedImage
-  filed-short = image-short (filed (programIn s)) filed-writable
+  unfolding filedImage filed
+  filed-short = moved-short s a (filedOrder (programIn s .rules)) numbering
 
   pub long : length (filedImage s) ≡ length s
   unfolding filedImage filed
-  long = ordered-image-length (programIn s) (filedOrder (programIn s .rules)) numbering writable ∙ image-as-long s reads
+  long = moved-long s a (filedOrder (programIn s .rules)) numbering
 
-  list-same : length (listIn (filedImage s)) ≡ length (listIn s)
-  list-same =
-      ap (λ (p : Program). length (argumentList (p .rules))) holds ∙ sym (lists-length renumbered heads)
-
-  checks : checkImage (filedImage s) ≡ checkImage s
-  checks = filed-accepted ∙ sym a
-
-  verdict-same : (h budget argumentRoom nodeRoom : ℕ)
-      → queryVerdict (filedImage s) h budget argumentRoom nodeRoom ≡ queryVerdict s h budget argumentRoom nodeRoom
-  unfolding queryVerdict
-  verdict-same h budget argumentRoom nodeRoom =
-      ap₂ (λ (v : Verdict) (n : ℕ).
-      andThen v
-      (andThen (refuse (leb 128 h) 20 0)
-      (andThen (refuse (ltb 4096 budget) 21 0)
-      (andThen (refuse (ltb nodeRoom budget) 22 0) (refuse (ltb argumentRoom n) 23 0))))) checks list-same
-
-  query-same : (h budget argumentRoom nodeRoom : ℕ)
-      → queried (filedImage s) h budget argumentRoom nodeRoom ≡ queried s h budget argumentRoom nodeRoom
-  unfolding queried
-  query-same h budget argumentRoom nodeRoom =
-      ap₂ answeredBy (verdict-same h budget argumentRoom nodeRoom)
-      (ap (λ (p : Program). answer p h budget) holds ∙ sym (answers-same renumbered heads h budget))
+  filed-answered : AnsweredAs s (filedImage s)
+  unfolding filedImage filed
+  filed-answered = moved-answered s a (filedOrder (programIn s .rules)) numbering
 
   filed-again : filedImage (filedImage s) ≡ filedImage s
   unfolding filedImage
-  filed-again = ap imageOf (ap filed holds ∙ filed-twice (programIn s) wellformed)
+  filed-again = ap imageOf (ap filed holds ∙ filed-twice (programIn s) (wellformed s a))
 
-  host-same : (h budget : ℕ) → hostCall (filedImage s) h budget ≡ hostCall s h budget
-  unfolding hostCall
-  host-same h budget = ap packed (query-same h budget 4096 4096)
+  filed-form : FiledForm (filedImage s)
+  filed-form = record {
+    rules-ascend = subst (λ (p : Program). Sorted ruleKey (p .rules)) (sym holds) (filed-rules-sorted (programIn s) (wellformed s a));
+    pairs-ascend = subst (λ (p : Program). Sorted pairKey (p .pairs)) (sym holds) (filed-pairs-sorted (programIn s) (wellformed s a));
+  }
 
-  list-same-call : (room : ℕ) → listed (filedImage s) room ≡ listed s room
-  unfolding listed listVerdict
-  list-same-call room =
-      ap₂ (λ (v : Verdict) (n : ℕ). listedBy (andThen v (refuse (ltb room n) 23 0)) n) checks list-same
+  pub old-numbering : Numbering (rulesOf s) (oldNumbers s)
+  unfolding oldNumbers
+  old-numbering =
+      subst (λ (n : ℕ). Numbering n (filedOrder (programIn s .rules))) (rule-count s (reads s a)) numbering
 
-  -- every call that gives a literal's answer
-  call-same : (c : Call) → (verdictOf (filedImage s) c ≡ verdictOf s c) × (codeFrom (filedImage s) c ≡ codeFrom s c)
-      × (nodesFrom (filedImage s) c ≡ nodesFrom s c)
-  call-same (query h budget argumentRoom nodeRoom) =
-      let e = query-same h budget argumentRoom nodeRoom in
-      (verdict-same h budget argumentRoom nodeRoom, ap codeOf e, ap nodesOf e)
-  call-same (host h budget) =
-      let e = host-same h budget in
-      (verdict-same h budget 4096 4096, ap (λ (n : ℕ). n / 65536) e, ap (λ (n : ℕ). n % 65536) e)
-  call-same (trees h budget argumentRoom nodeRoom) =
-      let e : treesCall (filedImage s) h budget argumentRoom nodeRoom ≡ treesCall s h budget argumentRoom nodeRoom
-      = ap answeredNumber (query-same h budget argumentRoom nodeRoom) in
-      (verdict-same h budget argumentRoom nodeRoom, ap (λ (n : ℕ). n / 65536) e, ap (λ (n : ℕ). n % 65536) e)
+  pub numbers-long : length (oldNumbers s) ≡ rulesOf s
+  numbers-long = numbering-length (rulesOf s) (oldNumbers s) old-numbering
+
+  pub filed-count : length (programIn (filedImage s) .rules) ≡ rulesOf s
+  unfolding filed oldNumbers
+  filed-count =
+      ap (λ (p : Program). length (p .rules)) holds
+      ∙ ordered-length (programIn s) (filedOrder (programIn s .rules)) numbering (wellformed s a)
+      ∙ numbers-long
+
+  -- "the old number of each filed rule"
+  old-number : (i : ℕ) → i < rulesOf s
+      → (getD (oldNumbers s) i 0 < rulesOf s)
+      × (ruleAt (programIn (filedImage s) .rules) i ≡ ruleAt (programIn s .rules) (getD (oldNumbers s) i 0))
+  unfolding oldNumbers filed
+  old-number i h =
+      let l = numbers-long in (
+        old-numbering .below (getD (oldNumbers s) i 0) (there 0 (oldNumbers s) i (omega arith)),
+        ap (λ (p : Program). ruleAt (p .rules) i) holds
+            ∙ ap (λ (r : List Rule). ruleAt r i) (ordered-rules (programIn s) (filedOrder (programIn s .rules)))
+            ∙ getD-map 0 (ruleAt (programIn s .rules)) (filedOrder (programIn s .rules)) i (fact 0) (omega arith),
+      )
 
   pub files : Files s
   files = record {
     accepted = filed-accepted;
     bytes = filed-bytes;
     as-long = long;
-    rules-ascend = subst (λ (p : Program). Sorted ruleKey (p .rules)) (sym holds) (filed-rules-sorted (programIn s) wellformed);
-    pairs-ascend = subst (λ (p : Program). Sorted pairKey (p .pairs)) (sym holds) (filed-pairs-sorted (programIn s) wellformed);
-    same-content = subst (SameContent (programIn s)) (sym holds) (filed-content (programIn s) wellformed);
+    in-form = filed-form;
+    same-content = subst (SameContent (programIn s)) (sym holds) (filed-content (programIn s) (wellformed s a));
     twice = filed-again;
-    queries = query-same;
-    trees = λ h budget argumentRoom nodeRoom. ap answeredNumber (query-same h budget argumentRoom nodeRoom);
-    hosts = host-same;
-    calls = call-same;
-    nodes = λ h. ap (λ (p : Program). nodeCount (tests p) h) holds ∙ sym (nodes-same renumbered heads h);
-    lists = λ room. (list-same-call room, ap listedNumber (list-same-call room));
+    answered = filed-answered;
+    one-for-each = numbers-long;
+    old-number = old-number;
   }
 
 same-image : (s t : List ℕ) → filed (programIn s) ≡ filed (programIn t) → filedImage s ≡ filedImage t

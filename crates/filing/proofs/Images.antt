@@ -20,7 +20,7 @@ use Rattle.writing.proofs.Reading.{image-length}
 use Rattle.filing.specs.Filed.{ordered}
 use Rattle.filing.specs.inside.Wellformed.{Wellformed}
 use Rattle.lists.specs.inside.Numbering.{Numbering}
-use Rattle.filing.proofs.Orders.{ordered-renumbered, ordered-pairs-sorted, ordered-wellformed, moved-pair}
+use Rattle.filing.proofs.Orders.{ordered-atoms, ordered-renumbered, ordered-pairs-sorted, ordered-wellformed, moved-pair}
 
 -- ---- what does not depend on the order of the rules
 
@@ -69,18 +69,14 @@ module _ (p : Program) (order : List ℕ) (o : Numbering (length (p .rules)) ord
       let moved : ℕ × ℕ → ℕ × ℕ = λ q. (indexIn order (q .0), indexIn order (q .1)) in
       perm-length (sort-perm pairKey (map moved (p .pairs))) ∙ length-map (p .pairs) moved
 
-  pub same-atoms : ordered p order .atoms ≡ p .atoms
-  unfolding ordered
-  same-atoms = refl
-
   pub ordered-writable : Writable (ordered p order)
   ordered-writable = record {
-    few-atoms = let f = w .few-atoms in omega (arith, same-atoms);
+    few-atoms = let f = w .few-atoms in omega (arith, ordered-atoms p order);
     few-rules = let f = w .few-rules in omega (arith, perm-length rules-perm);
     few-pairs = let f = w .few-pairs in omega (arith, pairs-count);
     few-defeasible = let f = w .few-defeasible in omega (arith, defeasibles-perm rules-perm);
     rule-fits = λ r i.
-        subst (λ (a : ℕ). partVerdict (ruleBytes r) a 0 0 ≡ Accepted) (sym same-atoms)
+        subst (λ (a : ℕ). partVerdict (ruleBytes r) a 0 0 ≡ Accepted) (sym (ordered-atoms p order))
         (w .rule-fits r (rules-to (renumbered-sym renumbered) r i));
     rules-once = ordered-wellformed p order o wellformed .rules-once;
     pairs-name = named;

@@ -1,5 +1,5 @@
 -- A program in another order: the same program under other numbers.
-use mathlib.Core.Path.{_≡_, sym, ap, ap₂, _∙_}
+use mathlib.Core.Path.{_≡_, refl, sym, ap, ap₂, _∙_}
 use mathlib.Core.List.{List, map, List·Memᴰ, Memᴰ·cast, Permᴰ·symm}
 use Prim.Native.Nat.{ℕ, _<_}
 use native.Mathlib.Omega.{arith}
@@ -21,6 +21,14 @@ pair-key : (x y : ℕ × ℕ) → pairKey x ≡ pairKey y → x ≡ y
 pair-key x y e = ap₂ (λ (a b : ℕ). (a, b)) (cc) (cc)
 
 -- ---- the program in another order
+
+pub ordered-atoms : (p : Program) (order : List ℕ) → ordered p order .atoms ≡ p .atoms
+unfolding ordered
+ordered-atoms p order = refl
+
+pub ordered-rules : (p : Program) (order : List ℕ) → ordered p order .rules ≡ map (ruleAt (p .rules)) order
+unfolding ordered
+ordered-rules p order = refl
 
 module _ (p : Program) (order : List ℕ) (o : Numbering (length (p .rules)) order) (s : Wellformed p) where
   abbrev to : ℕ → ℕ

@@ -1,8 +1,8 @@
--- The filed form of a program (document 02, C-12). No byte stands here.
-use mathlib.Core.List.{List, [], _∷_, map}
+-- The filed form of a program (document 02, C-12) and the way back to typed order (C-16). No byte stands here.
+use mathlib.Core.List.{List, _∷_, map}
 use Prim.Native.Nat.{ℕ}
 use lib.ListN.{length}
-use Rattle.lists.specs.Lists.{upto, indexIn}
+use Rattle.lists.specs.Lists.{upto, indexIn, inverse}
 use Rattle.lists.specs.Sorting.{sortBy}
 use Rattle.program.specs.Program.{Rule, Program, ruleAt}
 use Rattle.writing.specs.Image.{kindNumber, pairKey}
@@ -11,7 +11,7 @@ use Rattle.writing.specs.Image.{kindNumber, pairKey}
 abbrev pub ruleKey : Rule → List ℕ
 ruleKey r = kindNumber (r .kind) ∷ r .head ∷ length (r .body) ∷ r .body
 
--- the numbers of all rules in that order
+-- the numbers of all rules in that order: "the old number of each filed rule"
 unfoldable pub filedOrder : List Rule → List ℕ
 filedOrder l = sortBy (λ i. ruleKey (ruleAt l i)) (upto 0 (length l))
 
@@ -25,3 +25,8 @@ ordered p order = record {
 
 unfoldable pub filed : Program → Program
 filed p = ordered p (filedOrder (p .rules))
+
+-- "with its rules in old order and its pairs sorted for it": filed rule i has place `numbers` i, so the rule at a place is the
+-- one whose old number it is
+unfoldable pub typed : Program → List ℕ → Program
+typed p numbers = ordered p (inverse numbers)

@@ -2,7 +2,7 @@
 ghost use mathlib.Core.Path.{_≡_};
 ghost use lib.ListN.{length};
 ghost use Rattle.calls.specs.Calls.{checkCall, listCall, listTable, treesCall, queryArguments, queryNodes, hostCall};
-ghost use Rattle.filing.specs.Calls.{fileCall, fileTable};
+ghost use Rattle.filing.specs.Calls.{fileCall, fileTable, fileNumbers, unfileCall, unfileTable};
 use nodes::Node;
 
 // 0 where the image is accepted, else number * 2^32 + place.
@@ -21,12 +21,20 @@ pub extern "C" fn foqtirel_list(image: &[u8], arguments: &mut [u32]) -> u64
     packing::listed(warrant::list(image, arguments))
 }
 
-// The length of the image's filed form, or number * 2^32 + place of the cause; and the lent table.
+// The length of the image's filed form, or number * 2^32 + place of the cause; and the two lent tables.
 #[no_mangle]
-pub extern "C" fn foqtirel_file(image: &[u8], out: &mut [u8]) -> u64
-    ensures { λ r. ⌜ (r ≡ fileCall (now (image .entry)) (length (now (out .entry)))) × (now (out .exit) ≡ fileTable (now (image .entry)) (now (out .entry))) ⌝ }
+pub extern "C" fn foqtirel_file(image: &[u8], out: &mut [u8], numbers: &mut [u8]) -> u64
+    ensures { λ r. ⌜ (r ≡ fileCall (now (image .entry)) (length (now (out .entry))) (length (now (numbers .entry)))) × (now (out .exit) ≡ fileTable (now (image .entry)) (now (out .entry)) (length (now (numbers .entry)))) × (now (numbers .exit) ≡ fileNumbers (now (image .entry)) (length (now (out .entry))) (now (numbers .entry))) ⌝ }
 {
-    packing::written(filer::file(image, out))
+    packing::written(filer::file(image, out, numbers))
+}
+
+// The length of the image in typed order, or number * 2^32 + place of the cause; and the lent table.
+#[no_mangle]
+pub extern "C" fn foqtirel_unfile(image: &[u8], numbers: &[u8], out: &mut [u8]) -> u64
+    ensures { λ r. ⌜ (r ≡ unfileCall (now (image .entry)) (now (numbers .entry)) (length (now (out .entry)))) × (now (out .exit) ≡ unfileTable (now (image .entry)) (now (numbers .entry)) (now (out .entry))) ⌝ }
+{
+    packing::written(filer::unfile(image, numbers, out))
 }
 
 // A literal's answer as one number, or number * 2^32 + place of the cause; and the two lent tables.

@@ -4,7 +4,7 @@ use mathlib.Core.Bool.{Bool, true, false, not, _&&_, _||_}
 use mathlib.Core.List.{List, [], _∷_, map, List·Memᴰ, List·Memᴰ·head, List·Memᴰ·tail, List·Memᴰ·not-nil, List·Memᴰ·cases-cons, Memᴰ·cast}
 use mathlib.Core.List.{List·Permᴰ, List·Permᴰ·nil, List·Permᴰ·cons, List·Permᴰ·swap, List·Permᴰ·trans, Permᴰ·refl, Permᴰ·symm}
 use mathlib.Core.Logic.{_⊎_, ⊎-elim}
-use Prim.Native.Nat.{ℕ, suc}
+use Prim.Native.Nat.{ℕ, suc, _≤_}
 use native.Mathlib.Omega.{arith}
 use lib.ListN.{length}
 use Rattle.lists.specs.Lists.{Within, Distinct, keep, any, all, filter}
@@ -155,6 +155,14 @@ module _ {A : Type 0} where
       ⊎-elim (λ q. absurd (e′ .0 (Memᴰ·cast (sym q) i))) (λ j. j)
       (List·Memᴰ·cases-cons (w y (perm-within (Permᴰ·symm (r .1)) y (List·Memᴰ·tail i)))))))
       (Permᴰ·symm (r .1))
+
+  pub distinct-length : (l m : List A) → Distinct l → Within l m → length l ≤ length m
+  distinct-length [] m d w = omega arith
+  distinct-length (x ∷ l) m d w =
+      let r = perm-front (w x (List·Memᴰ·head refl)) in
+      let rest = distinct-length l (r .0) (d .1) (λ y i.
+      ⊎-elim (λ e. absurd (d .0 (Memᴰ·cast (sym e) i))) (λ j. j) (List·Memᴰ·cases-cons (perm-within (r .1) y (w y (List·Memᴰ·tail i))))) in
+      omega (arith, perm-length (r .1))
 
   -- what a renaming keeps apart stays apart
   pub distinct-map : {B : Type 0} (f : A → B) (l : List A)

@@ -1,9 +1,10 @@
 -- The functions on lists that the computed definitions use. In `any` and `all` the rest is bound by a `let`, which
 -- waits: the first element that decides ends the test.
 use mathlib.Core.Bool.{Bool, true, false, _&&_, _||_}
-use mathlib.Core.List.{List, [], _∷_, List·Memᴰ}
+use mathlib.Core.List.{List, [], _∷_, map, List·Memᴰ}
 use Prim.Native.Nat.{ℕ, zero, suc, _≤_, _<_}
 use lib.Dec.{eqb}
+use lib.ListN.{length}
 
 module _ {A : Type 0} where
   -- a, where the test holds, and b where it does not
@@ -50,6 +51,11 @@ module _ {A : Type 0} where
 abbrev pub member : ℕ → List ℕ → Bool
 member n = any (eqb n)
 
+-- whether some number stands twice
+abbrev pub repeats : List ℕ → Bool
+repeats [] = false
+repeats (n ∷ l) = let rest = repeats l in member n l || rest
+
 -- the `count` numbers from `first` on
 abbrev pub upto : ℕ → ℕ → List ℕ
 upto first zero = []
@@ -59,6 +65,10 @@ upto first (suc count) = first ∷ upto (suc first) count
 abbrev pub indexIn : List ℕ → ℕ → ℕ
 indexIn [] x = 0
 indexIn (y ∷ l) x = let later = indexIn l x in choose (eqb y x) 0 (suc later)
+
+-- where each number stands in a list of the first numbers in another order
+unfoldable pub inverse : List ℕ → List ℕ
+inverse l = map (indexIn l) (upto 0 (length l))
 
 -- strictly ascending: each number is below every one that follows it
 abbrev pub Ascending : List ℕ → Type 0

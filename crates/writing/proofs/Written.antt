@@ -23,11 +23,7 @@ use Rattle.part.proofs.Bytes.{drop-at}
 use Rattle.image.proofs.Readings.{rules-length, pairs-length}
 use Rattle.image.proofs.Accepted.{Sound, accepted-sound, rule-sound}
 use Rattle.writing.proofs.Reading.{image-length}
-use Rattle.writing.specs.Image.{kindNumber, ruleBytes, pairBytes, partsOf, directory, together, headerBytes, imageOf}
-
--- each byte is one
-abbrev pub Bytes : List ℕ → Type 0
-Bytes s = (i : ℕ) → byteAt s i < 256
+use Rattle.writing.specs.Image.{Bytes, kindNumber, ruleBytes, pairBytes, partsOf, directory, together, headerBytes, imageOf}
 
 -- ---- parts, each of which follows the one before
 

@@ -1,8 +1,13 @@
 -- The bytes that hold a program (document 01, "The program image"): the image that the reader reads back.
 use mathlib.Core.List.{List, [], _∷_, _++_, map}
-use Prim.Native.Nat.{ℕ, _+_, _*_, _/_, _%_}
+use Prim.Native.Nat.{ℕ, _+_, _*_, _/_, _%_, _<_}
 use lib.ListN.{length}
 use Rattle.program.specs.Program.{Kind, strict, defeasible, Rule, Program}
+use Rattle.layout.specs.Layout.{byteAt}
+
+-- each number is a byte, as in every lent image
+abbrev pub Bytes : List ℕ → Type 0
+Bytes s = (i : ℕ) → byteAt s i < 256
 
 -- "a kind byte (0 strict, 1 defeasible)"
 abbrev pub kindNumber : Kind → ℕ

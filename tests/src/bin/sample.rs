@@ -7,12 +7,13 @@
 
 use std::process::ExitCode;
 
-use foqtirel_binding::raw::{foqtirel_file, foqtirel_list, foqtirel_trees};
+use foqtirel_binding::raw::{foqtirel_file, foqtirel_list, foqtirel_trees, foqtirel_unfile};
 use foqtirel_binding::{answered, answered_with_trees, check, granted, query, Node};
 use foqtirel_tests::generator::accepted::small_programs;
 use foqtirel_tests::generator::filing::alike;
 use foqtirel_tests::generator::late::late;
 use foqtirel_tests::generator::lengths::{cut_and_continued, greatest};
+use foqtirel_tests::generator::unfiling::faulty;
 use foqtirel_tests::generator::{accepted, chained, damaged};
 use foqtirel_tests::reference::image::defeasible_rules;
 use foqtirel_tests::vectors;
@@ -77,12 +78,12 @@ fn run(counts: &mut Counts) {
     for case in cut_and_continued().into_iter().chain(late()) {
         let image: Box<[u8]> = case.image.into();
         counts.result(granted(check(&image)).is_ok());
-        file(&image, image.len(), counts);
+        let rules = rule_count(&image);
+        file(&image, (image.len(), rules), counts);
+        unfile(&image, &vec![0; rules], 0, image.len(), counts);
     }
     for longest in [greatest(), alike()] {
-        let image = longest.image();
-        file(&image, image.len(), counts);
-        file(&image, image.len() - 1, counts);
+        there_and_back(&longest.image(), 0, counts);
     }
 }
 
@@ -90,8 +91,7 @@ fn run(counts: &mut Counts) {
 fn ask(image: &[u8], literal: u32, budget: u32, more: usize, counts: &mut Counts) {
     let image: Box<[u8]> = image.into();
     counts.result(granted(check(&image)).is_ok());
-    file(&image, image.len() + more, counts);
-    file(&image, image.len().saturating_sub(1), counts);
+    there_and_back(&image, more, counts);
     counts.result(answered(query(&image, literal, budget)).is_ok());
     let count = list(&image, MOST_ARGUMENTS, counts).unwrap_or(more);
     let nodes = budget as usize;
@@ -105,19 +105,78 @@ fn ask(image: &[u8], literal: u32, budget: u32, more: usize, counts: &mut Counts
     }
 }
 
-/// The filed form is checked, which depends on every byte of it.
-fn file(image: &[u8], room: usize, counts: &mut Counts) {
+/// The number of rules that an image says it has.
+fn rule_count(image: &[u8]) -> usize {
+    image.get(2).copied().unwrap_or(0).into()
+}
+
+/// Filed and back again, with so many entries more than are needed; with each table too short by an entry; and with faulty
+/// numbers.
+fn there_and_back(image: &[u8], more: usize, counts: &mut Counts) {
+    let (length, rules) = (image.len(), rule_count(image));
+    file(image, (length.saturating_sub(1), rules), counts);
+    file(image, (length, rules.saturating_sub(1)), counts);
+    let Some((form, numbers)) = file(image, (length + more, rules + more), counts) else {
+        return unfile(image, &vec![0; rules], more, length, counts);
+    };
+    unfile(&form, &numbers, more, length + more, counts);
+    unfile(&form, &numbers, more, length - 1, counts);
+    let short = &numbers[..rules.saturating_sub(1)];
+    unfile(&form, short, 0, length, counts);
+    for numbers in faulty(&numbers).iter().step_by(4) {
+        unfile(&form, numbers, more, length, counts);
+    }
+}
+
+/// A filed form and its old numbers. The form is checked, which depends on every byte of it; the way back depends on every
+/// number.
+fn file(
+    image: &[u8],
+    (room, number_room): (usize, usize),
+    counts: &mut Counts,
+) -> Option<(Box<[u8]>, Vec<u8>)> {
     let mut out: Vec<u8> = Vec::with_capacity(room);
+    let mut numbers: Vec<u8> = Vec::with_capacity(number_room);
     // SAFETY: pointers and lengths are those of the allocations, and the call has written as many bytes as it says.
     let filed = unsafe {
-        let table = out.as_mut_ptr();
-        let given = granted(foqtirel_file(image.as_ptr(), image.len(), table, room));
-        out.set_len(room.min(given.unwrap_or(0) as usize));
+        let given = granted(foqtirel_file(
+            image.as_ptr(),
+            image.len(),
+            out.as_mut_ptr(),
+            room,
+            numbers.as_mut_ptr(),
+            number_room,
+        ));
+        if let Ok(length) = given {
+            out.set_len(room.min(length as usize));
+            numbers.set_len(number_room.min(rule_count(image)));
+        }
         given.is_ok()
     };
     counts.result(filed);
-    counts.entries += out.len();
+    counts.entries += out.len() + numbers.len();
     counts.odd += usize::from(filed && granted(check(&out)).is_err());
+    filed.then(|| (out.into(), numbers))
+}
+
+/// Back to old order, from a table of these numbers and so many entries more that are not written. What comes of it is
+/// checked.
+fn unfile(image: &[u8], numbers: &[u8], more: usize, room: usize, counts: &mut Counts) {
+    let count = numbers.len() + more;
+    let mut lent: Vec<u8> = Vec::with_capacity(count);
+    lent.extend(numbers);
+    let mut out: Vec<u8> = Vec::with_capacity(room);
+    // SAFETY: pointers and lengths are those of the allocations, and the call has written as many bytes as it says.
+    let unfiled = unsafe {
+        let (bytes, table) = (image.as_ptr(), out.as_mut_ptr());
+        let given = foqtirel_unfile(bytes, image.len(), lent.as_ptr(), count, table, room);
+        let given = granted(given);
+        out.set_len(room.min(given.unwrap_or(0) as usize));
+        given.is_ok()
+    };
+    counts.result(unfiled);
+    counts.entries += out.len();
+    counts.odd += usize::from(unfiled && granted(check(&out)).is_err());
 }
 
 /// The number of arguments, unless the list is refused.

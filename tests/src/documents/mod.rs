@@ -74,10 +74,15 @@ impl Findings {
     }
 }
 
+/// The options after which a command names what it writes.
+const WRITTEN_AFTER: [&str; 2] = ["-o", "--numbers"];
+
 fn missing_path(path: &str, text: &str, sources: &Sources) -> Vec<String> {
+    let written = |option: &&str| text.contains(&format!("{option} {path}"));
     let there = match path.split_once("target/") {
         Some((before, made)) => {
-            made.is_empty() || sources.makes(before, made) || text.contains(&format!("-o {path}"))
+            let written = WRITTEN_AFTER.iter().any(written);
+            made.is_empty() || sources.makes(before, made) || written
         }
         None => !sources.find(path).is_empty(),
     };

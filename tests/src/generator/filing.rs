@@ -14,7 +14,7 @@ pub fn retyped(random: &mut Random, program: &Description) -> Description {
 }
 
 /// The program with the rules that are named by their numbers, in that order, and the pairs that remain.
-fn in_order(program: &Description, order: &[u8]) -> Description {
+pub(super) fn in_order(program: &Description, order: &[u8]) -> Description {
     let place = |rule: u8| order.iter().position(|&old| old == rule);
     let pairs = program.pairs.iter().filter_map(|&(first, second)| {
         let (first, second) = (place(first)?, place(second)?);
@@ -43,6 +43,40 @@ pub fn turned(program: &Description) -> Description {
     });
     in_order(program, &order)
 }
+
+/// Programs in which a later key would have it otherwise, each with what decides and its filed form.
+pub const BY_KEY: [(&str, &str, &str); 14] = [
+    ("kind", "d 2<0; 4", "4; d 2<0"),
+    ("kind", "d 0<3; 5<0,1,2", "5<0,1,2; d 0<3"),
+    ("head", "4; 2<0; 3<0,1; 2", "2; 2<0; 3<0,1; 4"),
+    ("sign of the head", "d 3<0; d 2<5", "d 2<5; d 3<0"),
+    ("length", "2<0,1; 2<5; 2", "2; 2<5; 2<0,1"),
+    (
+        "length",
+        "d 2<0,1,3; d 2<4,5; d 2<7",
+        "d 2<7; d 2<4,5; d 2<0,1,3",
+    ),
+    ("first literal", "2<1,3; 2<0,9", "2<0,9; 2<1,3"),
+    ("last literal", "2<0,1,9; 2<0,1,8", "2<0,1,8; 2<0,1,9"),
+    ("pairs", "d 4<0; d 2<0; (0,1)", "d 2<0; d 4<0; (1,0)"),
+    (
+        "pairs",
+        "d 4<0; d 6<0; d 2<0; (0,1); (1,2)",
+        "d 2<0; d 4<0; d 6<0; (1,2); (2,0)",
+    ),
+    (
+        "pairs",
+        "d 6<0; d 4<0; d 2<0; (0,1); (0,2); (1,2); (2,0)",
+        "d 2<0; d 4<0; d 6<0; (0,2); (1,0); (2,0); (2,1)",
+    ),
+    (
+        "literals",
+        "127; d 100<127; d 9<127; (1,2)",
+        "127; d 9<127; d 100<127; (2,1)",
+    ),
+    ("atoms", "atoms 64; 3; 0", "atoms 64; 0; 3"),
+    ("nothing", "", ""),
+];
 
 /// A way to change one thing in a program. None where there is nothing to change in this way.
 type Change = fn(&mut Random, &Description) -> Option<Description>;

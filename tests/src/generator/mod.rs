@@ -17,6 +17,7 @@ pub mod repeats;
 pub mod scenario;
 pub mod soundrules;
 pub mod spoil;
+pub mod unfiling;
 
 pub use accepted::accepted;
 pub use chained::{chained, chained_sixteen};

@@ -2,7 +2,7 @@
 
 use super::analysis::Analysis;
 use super::derivation::contradictory;
-use super::filing::{filed, write_image};
+use super::filing::{filed, old_numbers, unfiled, write_image};
 use super::image::read_image;
 use super::literal::Literal;
 use super::program::Program;
@@ -66,15 +66,45 @@ pub fn accepted(image: &[u8]) -> Result<Program, Refusal> {
     Ok(program)
 }
 
-/// Writes the filed form of an image to the front of a lent byte table; returns its length.
-pub fn file(image: &[u8], out: &mut [u8]) -> Result<usize, Refusal> {
+/// Writes the filed form of an image to the front of a lent byte table, and the old number of each filed rule to the front
+/// of another; returns the length of the form.
+pub fn file(image: &[u8], out: &mut [u8], numbers: &mut [u8]) -> Result<usize, Refusal> {
+    let program = with_room(image, out, numbers)?;
+    let old = old_numbers(&program);
+    let old: Vec<u8> = old.into_iter().map(|number| number as u8).collect();
+    write_front(numbers, &old);
+    Ok(write_front(out, &write_image(&filed(&program))))
+}
+
+/// Writes a filed image with its rules in old order, and its pairs sorted for it, to the front of a lent byte table; returns
+/// its length.
+pub fn unfile(image: &[u8], numbers: &[u8], out: &mut [u8]) -> Result<usize, Refusal> {
+    let program = with_room(image, out, numbers)?;
+    let rules = program.rules.len();
+    let numbers: Vec<usize> = numbers[..rules].iter().map(|&n| usize::from(n)).collect();
+    let out_of_range = numbers.iter().any(|&number| number >= rules);
+    let used_twice = (0..rules).any(|place| numbers[..place].contains(&numbers[place]));
+    if out_of_range || used_twice || filed(&program) != program {
+        return Err(Refusal::whole(Cause::Misfiled));
+    }
+    Ok(write_front(out, &write_image(&unfiled(&program, &numbers))))
+}
+
+/// The program of an image that is accepted, with a byte table for it and a table of numbers that are long enough.
+fn with_room(image: &[u8], out: &[u8], numbers: &[u8]) -> Result<Program, Refusal> {
     let program = accepted(image)?;
     if out.len() < image.len() {
         return Err(Refusal::whole(Cause::OutputTable));
     }
-    let form = write_image(&filed(&program));
-    out[..form.len()].copy_from_slice(&form);
-    Ok(form.len())
+    if numbers.len() < program.rules.len() {
+        return Err(Refusal::whole(Cause::NumberTable));
+    }
+    Ok(program)
+}
+
+fn write_front(table: &mut [u8], bytes: &[u8]) -> usize {
+    table[..bytes.len()].copy_from_slice(bytes);
+    bytes.len()
 }
 
 /// Lists the arguments of an image; returns how many there are.

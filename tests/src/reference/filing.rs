@@ -1,4 +1,4 @@
-//! The filed form of a program: one order of its rules and pairs, whatever order they were typed in.
+//! The filed form of a program: one order of its rules and pairs, whatever order they were typed in; and the way back.
 
 use super::literal::Literal;
 use super::program::{Kind, Program, Rule};
@@ -9,25 +9,41 @@ fn key(rule: &Rule) -> (u8, u8, usize, Vec<u8>) {
     (kind_byte(rule.kind), rule.head.number(), body.len(), body)
 }
 
+/// The number that each filed rule has in the program, in filed order.
+pub fn old_numbers(program: &Program) -> Vec<usize> {
+    let mut numbers: Vec<usize> = (0..program.rules.len()).collect();
+    numbers.sort_by_key(|&old| key(&program.rules[old]));
+    numbers
+}
+
 /// The program with its rules in filed order, and its pairs renumbered and sorted.
 pub fn filed(program: &Program) -> Program {
-    let mut old_numbers: Vec<usize> = (0..program.rules.len()).collect();
-    old_numbers.sort_by_key(|&old| key(&program.rules[old]));
+    let old_numbers = old_numbers(program);
     let new_number = |rule: usize| {
         let place = old_numbers.iter().position(|&old| old == rule);
-        place.expect("a pair names rules of the program")
+        place.expect("each rule has a place in the filed form")
     };
+    let new_numbers: Vec<usize> = (0..program.rules.len()).map(new_number).collect();
+    renumbered(program, &new_numbers)
+}
+
+/// A filed program with its rules in old order, and its pairs sorted for it, by the old number of each rule.
+pub fn unfiled(program: &Program, old_numbers: &[usize]) -> Program {
+    renumbered(program, old_numbers)
+}
+
+/// The program in which each rule has another number, with its pairs renumbered and sorted.
+fn renumbered(program: &Program, numbers: &[usize]) -> Program {
+    let mut rules: Vec<(usize, &Rule)> = numbers.iter().copied().zip(&program.rules).collect();
+    rules.sort_by_key(|&(number, _)| number);
     let mut pairs: Vec<(usize, usize)> = Vec::new();
     for &(winner, loser) in &program.pairs {
-        pairs.push((new_number(winner), new_number(loser)));
+        pairs.push((numbers[winner], numbers[loser]));
     }
     pairs.sort_unstable();
     Program {
         atoms: program.atoms,
-        rules: old_numbers
-            .iter()
-            .map(|&old| program.rules[old].clone())
-            .collect(),
+        rules: rules.into_iter().map(|(_, rule)| rule.clone()).collect(),
         pairs,
     }
 }

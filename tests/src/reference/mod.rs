@@ -18,7 +18,9 @@ pub mod tree;
 pub use advise::advise;
 pub use analysis::Analysis;
 pub use argument::Argument;
-pub use calls::{check, file, host_call, host_number, list, query, Answer, Code, MOST_NODES};
+pub use calls::{
+    check, file, host_call, host_number, list, query, unfile, Answer, Code, MOST_NODES,
+};
 pub use image::read_image;
 pub use literal::Literal;
 pub use program::{Kind, Program, Rule};

@@ -22,11 +22,13 @@ pub enum Cause {
     NodeTable = 22,
     ArgumentTable = 23,
     OutputTable = 24,
+    NumberTable = 25,
+    Misfiled = 26,
 }
 
 impl Cause {
     /// All causes in the order of their numbers.
-    pub const ALL: [Cause; 19] = [
+    pub const ALL: [Cause; 21] = [
         Cause::ImageLength,
         Cause::Header,
         Cause::Directory,
@@ -46,6 +48,8 @@ impl Cause {
         Cause::NodeTable,
         Cause::ArgumentTable,
         Cause::OutputTable,
+        Cause::NumberTable,
+        Cause::Misfiled,
     ];
 
     pub fn number(self) -> u32 {

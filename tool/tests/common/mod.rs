@@ -6,6 +6,7 @@ use std::process::{Command, Output};
 
 use foqtirel::engine;
 use foqtirel::explain::{self, Told};
+use foqtirel::load::{load_text, Loaded};
 use foqtirel::program::{Program, Rule};
 
 pub struct Ran {
@@ -139,4 +140,62 @@ pub fn scratch(name: &str) -> PathBuf {
     let directory = PathBuf::from(env!("CARGO_TARGET_TMPDIR")).join(name);
     std::fs::create_dir_all(&directory).unwrap();
     directory
+}
+
+/// A text as the tool reads it.
+pub fn loaded(text: &str) -> Loaded {
+    let (image, program, source) =
+        load_text(text).unwrap_or_else(|flaw| panic!("{flaw:?}: {text}"));
+    Loaded {
+        image,
+        program,
+        source: Some(source),
+        name: "typed.delp".to_string(),
+        notes: String::new(),
+    }
+}
+
+/// An image as the tool reads it.
+pub fn of_image(bytes: &[u8]) -> Loaded {
+    Loaded {
+        image: bytes.to_vec(),
+        program: foqtirel::image::decode(bytes).unwrap(),
+        source: None,
+        name: "typed.img".to_string(),
+        notes: String::new(),
+    }
+}
+
+pub fn shuffle<T>(random: &mut Random, list: &mut [T]) {
+    for last in (1..list.len()).rev() {
+        list.swap(last, random.below(last + 1));
+    }
+}
+
+/// Random programs that the engine accepts, with names that don't ascend with the numbers.
+pub fn programs(random: &mut Random, count: usize) -> Vec<Program> {
+    let mut programs = Vec::new();
+    while programs.len() < count {
+        let mut program = self::program(random);
+        if engine::check(&foqtirel::image::encode(&program)).is_ok() {
+            for (atom, name) in program.atoms.iter_mut().enumerate() {
+                *name = format!("{}_{atom}", ["rail", "base", "tilt"][atom % 3]);
+            }
+            programs.push(program);
+        }
+    }
+    programs
+}
+
+/// A file in a directory of a test's own.
+pub fn path(directory: &str, name: &str) -> String {
+    let path = scratch(directory).join(name);
+    path.to_str().expect("a name in UTF-8").to_string()
+}
+
+/// Writes such a file; returns its path.
+pub fn write(directory: &str, name: &str, bytes: impl AsRef<[u8]>) -> String {
+    let path = path(directory, name);
+    std::fs::write(&path, bytes).unwrap();
+    path
 }

@@ -1,79 +1,74 @@
--- By what the check says, and then whether the table is long enough.
-use mathlib.Core.Path.{_≡_, sym, _∙_}
-use Prim.Native.Nat.{ℕ, _+_, _<_, _≤_}
-use lib.ListN.{length}
-use Rattle.filing.proofs.Filed.{filed-short, long}
-use Rattle.filer.proofs.Rules.{accepted-few, accepted-long}
-use Rattle.filer.proofs.Files.{file-checked, file-short, file-done, filed-numbering}
+-- By what the common part says.
+use mathlib.Core.Path.{sym, _∙_}
+use Rattle.filing.proofs.Refusals.{file-accepted}
+use Rattle.filer.proofs.Rules.{accepted-long, accepted-short}
+use Rattle.filer.proofs.Files.{file-turned, filed-front, filed-numbering, file-done}
 use native.Mathlib.Omega.{arith}
 use borrow.Author.Needs.{needs}
 use Rattle.filer.proofs.file.Statement.{statement}
 use Rattle.filer.proofs.file.Tie as tie
 
-check-requires : tie.Need-check-requires
-check-requires c κs = search needs
+admit-requires : tie.Need-admit-requires
+admit-requires c κs = search needs
 
 enum-known-number : tie.Need-enum-known-number
 enum-known-number c = search needs
 
 returns : tie.Need-returns
-returns c = file-checked _ _ _ _ (sym (c .before .before .before .check .ensures) ∙ c .before .number .given .1)
+returns c = file-turned _ _ _ _ _ (sym (c .before .before .before .admit .ensures) ∙ c .before .number .given .1)
 
 enum-told : tie.Need-enum-told
 enum-told c = search needs
 
-returns-2 : tie.Need-returns-2
-returns-2 c = file-short _ _ (sym (c .before .before .before .check .ensures) ∙ c .before .enum-told .given .1) (c .if1 .taken)
-
 number-at-requires : tie.Need-number-at-requires
-number-at-requires c κs = omega (arith, accepted-long _ (sym (c .before .before .before .check .ensures) ∙ c .before .enum-told .given .1))
+number-at-requires c κs = omega (arith, accepted-long _ (file-accepted _ _ _ (sym (c .before .before .admit .ensures) ∙ c .enum-told .given .1) .0))
 
 cast-rules : tie.Need-cast-rules
 cast-rules c = search needs
 
-slice-aggregate-fill : tie.Need-slice-aggregate-fill
-slice-aggregate-fill c = search needs
-
 fill-requires : tie.Need-fill-requires
 fill-requires c κs =
-    let few = accepted-few _ (sym (c .before .before .before .before .before .check .ensures) ∙ c .before .before .before .enum-told .given .1) in
-    let low : c .before .number-at .result ≤ 96 = omega (arith, few .0, c .before .number-at .ensures) in
-    (sym (c .before .before .before .before .before .check .ensures) ∙ c .before .before .before .enum-told .given .1, c .before .number-at .ensures, search needs)
-
-slice-aggregate-write : tie.Need-slice-aggregate-write
-slice-aggregate-write c = search needs
+    let a = file-accepted _ _ _ (sym (c .before .before .before .before .admit .ensures) ∙ c .before .before .enum-told .given .1) in
+    (a .0, c .before .number-at .ensures, omega (arith, a .2, c .before .number-at .ensures))
 
 write-requires : tie.Need-write-requires
 write-requires c κs =
-    let a = sym (c .before .before .before .before .before .before .before .before .before .check .ensures) ∙ c .before .before .before .before .before .before .before .enum-told .given .1 in
-    let few = accepted-few _ a in
-    let low : c .before .before .before .before .before .number-at .result ≤ 96 = omega (arith, few .0, c .before .before .before .before .before .number-at .ensures) in
-    (a, c .before .before .before .before .before .number-at .ensures, search needs, filed-numbering _ a _ _ (c .before .before .before .before .before .number-at .ensures) (c .before .before .before .fill .ensures), c .before .before .before .before .before .before .if1 .left)
+    let e = sym (c .before .before .before .before .before .before .before .before .before .admit .ensures) ∙ c .before .before .before .before .before .before .before .enum-told .given .1 in
+    let a = file-accepted _ _ _ e in
+    let f = filed-front (c .before .before .before .before .before .before .before .before .before .before .before .before .before .args .image .now) (c .before .before .before .before .before .before .before .before .before .before .before .before .before .args .out .now) (c .before .before .before .before .before .before .before .before .before .before .before .before .before .args .numbers .now) e _ _ (c .before .before .before .before .before .before .number-at .ensures) (c .before .before .before .before .fill .ensures) in
+    (a .0, c .before .before .before .before .before .before .number-at .ensures, omega (arith, a .2, c .before .before .before .before .before .before .number-at .ensures), filed-numbering (c .before .before .before .before .before .before .before .before .before .before .before .before .before .args .image .now) (c .before .before .before .before .before .before .before .before .before .before .before .before .before .args .out .now) (c .before .before .before .before .before .before .before .before .before .before .before .before .before .args .numbers .now) e _ _ (c .before .before .before .before .before .before .number-at .ensures) (f .0), a .1)
 
-cast-t19 : tie.Need-cast-t19
-cast-t19 c = omega (arith, filed-short _ (sym (c .before .before .before .before .before .before .before .before .before .before .before .before .check .ensures) ∙ c .before .before .before .before .before .before .before .before .before .before .enum-told .given .1), long _ (sym (c .before .before .before .before .before .before .before .before .before .before .before .before .check .ensures) ∙ c .before .before .before .before .before .before .before .before .before .before .enum-told .given .1))
+cast-t18 : tie.Need-cast-t18
+cast-t18 c =
+    let a = file-accepted _ _ _ (sym (c .before .before .before .before .before .before .before .before .before .before .before .before .admit .ensures) ∙ c .before .before .before .before .before .before .before .before .before .before .enum-told .given .1) .0 in
+    omega (arith, accepted-short _ a)
 
 same-length : tie.Need-same-length
 same-length c = search needs
 
-returns-3 : tie.Need-returns-3
-returns-3 c = file-done _ _ (sym (c .before .before .before .before .before .before .before .before .before .before .before .before .check .ensures) ∙ c .before .before .before .before .before .before .before .before .before .before .enum-told .given .1) (c .before .before .before .before .before .before .before .before .before .if1 .left) _ _ (c .before .before .before .before .before .before .fill .ensures) (c .before .before .write .ensures)
+same-length-2 : tie.Need-same-length-2
+same-length-2 c = search needs
+
+returns-2 : tie.Need-returns-2
+returns-2 c =
+    let e = sym (c .before .before .before .before .before .before .before .before .before .before .before .before .admit .ensures) ∙ c .before .before .before .before .before .before .before .before .before .before .enum-told .given .1 in
+    let f = filed-front (c .before .before .before .before .before .before .before .before .before .before .before .before .before .before .before .before .args .image .now) (c .before .before .before .before .before .before .before .before .before .before .before .before .before .before .before .before .args .out .now) (c .before .before .before .before .before .before .before .before .before .before .before .before .before .before .before .before .args .numbers .now) e _ _ (c .before .before .before .before .before .before .before .before .before .number-at .ensures) (c .before .before .before .before .before .before .before .fill .ensures) in
+    let d = file-done (c .before .before .before .before .before .before .before .before .before .before .before .before .before .before .before .before .args .image .now) (c .before .before .before .before .before .before .before .before .before .before .before .before .before .before .before .before .args .out .now) (c .before .before .before .before .before .before .before .before .before .before .before .before .before .before .before .before .args .numbers .now) e _ _ (f .0) (c .before .before .write .ensures) in
+    (d .0, d .1, f .1)
 
 pub file-spec : {M : Type 1} → statement M
 file-spec =
     tie.close
     (tie.spec
-    check-requires
+    admit-requires
     enum-known-number
     returns
     enum-told
-    returns-2
     number-at-requires
     cast-rules
-    slice-aggregate-fill
     fill-requires
-    slice-aggregate-write
     write-requires
-    cast-t19
+    cast-t18
     same-length
-    returns-3)
+    same-length-2
+    returns-2)

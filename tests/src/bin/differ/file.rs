@@ -1,4 +1,4 @@
-//! Filing: reference and library, each with its result and the whole byte table. And of the library by itself: one form for
+//! Filing: reference and library, each with its result and both tables whole. And of the library by itself: one form for
 //! every order, another for every change, and the same answers for an image and its form.
 
 use foqtirel_binding::{self as library, answered_with_trees, Node};
@@ -7,11 +7,12 @@ use foqtirel_tests::generator::filing::{alike, retyped, CHANGES};
 use foqtirel_tests::generator::{
     accepted, chained, changed, damaged, Description, Random, MADE_BY_RULE,
 };
-use foqtirel_tests::reference::{self, Refusal, MOST_NODES};
+use foqtirel_tests::reference::{self, MOST_NODES};
 use foqtirel_tests::vectors;
 
-use crate::filereport::FileReport;
+use crate::filereport::{result_of, FileReport};
 use crate::lent;
+use crate::unfile;
 
 const MIXED: usize = 4_000;
 const SMALL: usize = 1_500;
@@ -23,6 +24,7 @@ const LONG_TABLE_EVERY: usize = 25;
 const ORDERS: usize = 2;
 const QUESTIONS: usize = 24;
 const MOST: u32 = MOST_NODES as u32;
+const MOST_RULES: usize = 96;
 
 pub fn compare(seed: u64, report: &mut FileReport) {
     let mut random = Random::seeded(seed ^ 0x6669_6C65);
@@ -32,10 +34,13 @@ pub fn compare(seed: u64, report: &mut FileReport) {
         .map(|case| case.image);
     for image in programs.chain(vectors::images()).chain([alike().image()]) {
         compare_rooms(&image, &mut random, report);
-        if let Some(form) = filed(&image, &mut random, report) {
-            compare_orders(&image, &form, &mut random, report);
-            compare_changes(&image, &form, &mut random, report);
-            compare_answers(&image, &form, &mut random, report);
+        if let Some(filed) = filed(&image, &mut random, report) {
+            compare_orders(&image, &filed.form, &mut random, report);
+            compare_changes(&image, &filed.form, &mut random, report);
+            compare_answers(&image, &filed.form, &mut random, report);
+            unfile::compare(&image, &filed, &mut random, report);
+        } else {
+            unfile::compare_any(&image, image.len(), &mut random, report);
         }
     }
     let made = MADE_BY_RULE.iter().flat_map(|(_, make)| make());
@@ -44,57 +49,77 @@ pub fn compare(seed: u64, report: &mut FileReport) {
         let length = case.image.len();
         let short = random.pick(&[0, length.saturating_sub(1)]);
         let room = random.pick(&[short, length, length + 3]);
-        compare_call(&case.image, room, &mut random, report);
+        let number_room = random.pick(&[0, 1, MOST_RULES, MOST_RULES]);
+        compare_call(&case.image, (room, number_room), &mut random, report);
+        unfile::compare_any(&case.image, room, &mut random, report);
     }
 }
 
+/// A filed form, and the old numbers of its rules.
+#[derive(PartialEq, Eq)]
+pub struct Filed {
+    pub form: Vec<u8>,
+    pub numbers: Vec<u8>,
+}
+
+/// The number of rules that an image says it has.
+pub fn rule_count(image: &[u8]) -> usize {
+    image.get(2).copied().unwrap_or(0).into()
+}
+
 fn compare_rooms(image: &[u8], random: &mut Random, report: &mut FileReport) {
-    let length = image.len();
+    let (length, rules) = (image.len(), rule_count(image));
     let longer = length + random.between(2, 500);
     let mut rooms = vec![0, length.saturating_sub(1), length, length + 1, longer];
     if random.below(LONG_TABLE_EVERY) == 0 {
         rooms.push(65_536 + random.pick(&[0, 1, length]));
     }
     for room in rooms {
-        compare_call(image, room, random, report);
+        let longer = rules + random.between(2, 500);
+        let short = random.below(rules.max(1));
+        let number_room = random.pick(&[rules, rules, rules + 1, longer, short]);
+        compare_call(image, (room, number_room), random, report);
+    }
+    for number_room in [0, rules.saturating_sub(1)] {
+        compare_call(image, (length, number_room), random, report);
     }
 }
 
-/// Calls both with equal tables; returns the front of the library's, if both agree in all and filed.
+/// Calls both with equal tables; returns the fronts of the library's, if both agree in all and filed.
 fn compare_call(
     image: &[u8],
-    room: usize,
+    (room, number_room): (usize, usize),
     random: &mut Random,
     report: &mut FileReport,
-) -> Option<Vec<u8>> {
-    let mut by_library = lent::bytes(room, random);
+) -> Option<Filed> {
+    let mut by_library = [lent::bytes(room, random), lent::bytes(number_room, random)];
     let mut by_reference = by_library.clone();
-    let wanted = reference::file(image, by_reference.table());
-    let given = library::file(image, by_library.table());
-    let place = by_library.first_difference(&by_reference);
-    let packed = wanted.map_or_else(Refusal::packed, |length| length as u64);
-    if given == packed && place.is_none() {
-        report.agreed(wanted);
+    let [out, numbers] = by_reference.each_mut().map(|lent| lent.table());
+    let wanted = reference::file(image, out, numbers);
+    let [out, numbers] = by_library.each_mut().map(|lent| lent.table());
+    let given = library::file(image, out, numbers);
+    let places = [0, 1].map(|n| by_library[n].first_difference(&by_reference[n]));
+    if given == result_of(wanted) && places == [None; 2] {
+        report.filing.agreed(wanted);
         let length = wanted.ok()?;
-        return Some(by_library.table()[..length].to_vec());
+        let [out, numbers] = by_library.each_mut().map(|lent| lent.table());
+        return Some(Filed {
+            form: out[..length].to_vec(),
+            numbers: numbers[..rule_count(image)].to_vec(),
+        });
     }
-    report.faults.differed(
-        image,
-        &[
-            ("filing: reference", format!("{wanted:?}")),
-            (
-                "filing: library",
-                format!("{} * 2^32 + {}", given >> 32, given as u32),
-            ),
-            ("table length", room.to_string()),
-            ("first differing byte", format!("{place:?}")),
-        ],
-    );
+    let about = format!("tables of {room} and {number_room} bytes");
+    report.differed("filing", image, (wanted, given), (about, &places));
     None
 }
 
-fn filed(image: &[u8], random: &mut Random, report: &mut FileReport) -> Option<Vec<u8>> {
-    compare_call(image, image.len(), random, report)
+pub fn filed(image: &[u8], random: &mut Random, report: &mut FileReport) -> Option<Filed> {
+    compare_call(image, (image.len(), rule_count(image)), random, report)
+}
+
+/// The filed form alone.
+fn form(image: &[u8], random: &mut Random, report: &mut FileReport) -> Option<Vec<u8>> {
+    filed(image, random, report).map(|filed| filed.form)
 }
 
 /// Every order of one program has the same form, which is sound and its own.
@@ -102,7 +127,7 @@ fn compare_orders(image: &[u8], form: &[u8], random: &mut Random, report: &mut F
     let program = Description::of_image(image);
     let orders = (0..ORDERS).map(|_| retyped(random, &program).image());
     for other in orders.chain([form.to_vec()]).collect::<Vec<_>>() {
-        let same = filed(&other, random, report).as_deref() == Some(form);
+        let same = self::form(&other, random, report).as_deref() == Some(form);
         report.order(image, same);
     }
     report.order(image, library::check(form) == 0);
@@ -115,7 +140,7 @@ fn compare_changes(image: &[u8], form: &[u8], random: &mut Random, report: &mut 
     let Some(other) = change(random, &program) else {
         return;
     };
-    if let Some(other) = filed(&other.image(), random, report) {
+    if let Some(other) = self::form(&other.image(), random, report) {
         report.change(image, name, other != form);
     }
 }

@@ -1,4 +1,4 @@
-//! Counting and the summary of filing's comparison.
+//! Counting and the summary of the comparison of filing and of the way back.
 
 use std::collections::BTreeMap;
 use std::fmt::Display;
@@ -10,18 +10,57 @@ use foqtirel_tests::reference::Refusal;
 use crate::report::Faults;
 
 const LEAST_FILED: usize = 40_000;
+const LEAST_BACK: usize = 20_000;
 const LEAST_PER_CAUSE: usize = 100;
+/// So many other orders must have the same form, and so many forms go back and there again.
 const LEAST_ORDERS: usize = 10_000;
 const LEAST_PER_CHANGE: usize = 20;
 const LEAST_PER_RESULT: usize = 100;
 
+/// The results of one call.
+#[derive(Default)]
+pub struct Results {
+    images: usize,
+    longest: usize,
+    by_cause: BTreeMap<u32, usize>,
+}
+
+impl Results {
+    pub fn agreed(&mut self, result: Result<usize, Refusal>) {
+        match result {
+            Ok(length) => {
+                self.images += 1;
+                self.longest = self.longest.max(length);
+            }
+            Err(refusal) => *self.by_cause.entry(refusal.cause.number()).or_default() += 1,
+        }
+    }
+
+    /// Prints the counts and demands enough images, the longest among them, and enough of each cause.
+    fn finish(&self, call: &str, (last_cause, least): (u32, usize), faults: &mut Faults) {
+        let (images, longest) = (self.images, self.longest);
+        println!("{call}: {images} images written, the longest of {longest} bytes");
+        println!("{call}: refusals: {:?}", self.by_cause);
+        faults.demand(&format!("{call}: enough images"), images >= least);
+        faults.demand(&format!("{call}: the longest image"), longest == 1836);
+        let causes = (1..=14).chain(24..=last_cause);
+        let what = format!("{call}: cause");
+        demand_each(faults, &what, causes, &self.by_cause, LEAST_PER_CAUSE);
+    }
+}
+
+/// What the call for C returns for a result of the reference.
+pub fn result_of(result: Result<usize, Refusal>) -> u64 {
+    result.map_or_else(Refusal::packed, |length| length as u64)
+}
+
 #[derive(Default)]
 pub struct FileReport {
     pub faults: Faults,
-    filed: usize,
-    longest: usize,
-    by_cause: BTreeMap<u32, usize>,
+    pub filing: Results,
+    pub unfiling: Results,
     orders: usize,
+    ways_back: usize,
     by_change: BTreeMap<&'static str, usize>,
     /// What an image and its filed form were both asked: answers by their code, refusals by their number.
     answers: BTreeMap<u32, usize>,
@@ -29,20 +68,39 @@ pub struct FileReport {
 }
 
 impl FileReport {
-    pub fn agreed(&mut self, result: Result<usize, Refusal>) {
-        match result {
-            Ok(length) => {
-                self.filed += 1;
-                self.longest = self.longest.max(length);
-            }
-            Err(refusal) => *self.by_cause.entry(refusal.cause.number()).or_default() += 1,
-        }
+    /// Both sides' results, the tables they were lent, and where these differ.
+    pub fn differed(
+        &mut self,
+        call: &str,
+        image: &[u8],
+        (wanted, given): (Result<usize, Refusal>, u64),
+        (about, places): (String, &[Option<isize>]),
+    ) {
+        let library = format!("{} * 2^32 + {}", given >> 32, given as u32);
+        self.faults.differed(
+            image,
+            &[
+                (call, about),
+                ("reference", format!("{wanted:?}")),
+                ("library", library),
+                ("first differing byte of each table", format!("{places:?}")),
+            ],
+        );
     }
 
     pub fn order(&mut self, image: &[u8], same: bool) {
         self.orders += 1;
         if !same {
             let told = [("filing: another order has", "another form".to_string())];
+            self.faults.differed(image, &told);
+        }
+    }
+
+    /// Whether an image came back as it was.
+    pub fn way_back(&mut self, image: &[u8], same: bool) {
+        self.ways_back += 1;
+        if !same {
+            let told = [("unfiling: there and back gives", "other bytes".to_string())];
             self.faults.differed(image, &told);
         }
     }
@@ -72,26 +130,40 @@ impl FileReport {
 
     /// Prints the summary; true if nothing differed and enough was seen.
     pub fn finish(mut self) -> bool {
-        let (filed, longest, orders) = (self.filed, self.longest, self.orders);
-        println!(
-            "file: {filed} images filed, the longest of {longest} bytes; {orders} other orders"
-        );
-        println!("file: refusals: {:?}", self.by_cause);
+        let faults = &mut self.faults;
+        self.filing.finish("file", (25, LEAST_FILED), faults);
+        self.unfiling.finish("unfile", (26, LEAST_BACK), faults);
+        let (orders, ways_back) = (self.orders, self.ways_back);
+        println!("file: {orders} other orders; {ways_back} ways back, or back and there");
         println!("file: changes: {:?}", self.by_change);
         println!(
             "file: asked of both: answers {:?}, refusals {:?}",
             self.answers, self.refusals
         );
-        let faults = &mut self.faults;
-        faults.demand("enough images filed", filed >= LEAST_FILED);
-        faults.demand("the longest image filed", longest == 1836);
-        faults.demand("enough orders", orders >= LEAST_ORDERS);
-        let causes = (1..=14).chain([24]);
+        faults.demand("file: enough orders", orders >= LEAST_ORDERS);
+        faults.demand("file: enough ways back", ways_back >= LEAST_ORDERS);
         let changes = CHANGES.iter().map(|&(name, _)| name);
-        demand_each(faults, "cause", causes, &self.by_cause, LEAST_PER_CAUSE);
-        demand_each(faults, "change", changes, &self.by_change, LEAST_PER_CHANGE);
-        demand_each(faults, "answer", 1..=5, &self.answers, LEAST_PER_RESULT);
-        demand_each(faults, "refusal", 20..=23, &self.refusals, LEAST_PER_RESULT);
+        demand_each(
+            faults,
+            "file: change",
+            changes,
+            &self.by_change,
+            LEAST_PER_CHANGE,
+        );
+        demand_each(
+            faults,
+            "file: answer",
+            1..=5,
+            &self.answers,
+            LEAST_PER_RESULT,
+        );
+        demand_each(
+            faults,
+            "file: refusal",
+            20..=23,
+            &self.refusals,
+            LEAST_PER_RESULT,
+        );
         faults.finish("file")
     }
 }
@@ -106,9 +178,6 @@ fn demand_each<Key: Ord + Display>(
 ) {
     for key in keys {
         let seen = counts.get(&key).copied().unwrap_or(0);
-        faults.demand(
-            &format!("file: {what} {key} seen {seen} times"),
-            seen >= least,
-        );
+        faults.demand(&format!("{what} {key} seen {seen} times"), seen >= least);
     }
 }

@@ -1,7 +1,7 @@
 //! Runs the proved library against the reference and against what is known from construction.
 //!
 //! `differ [seed] [damaged images] [accepted images]`; the two counts are those of the check, which takes all that are made by
-//! rule besides. `--query` compares queries alone, `--file` filing alone.
+//! rule besides. `--query` compares queries alone, `--file` filing and the way back alone.
 
 mod check;
 mod file;
@@ -14,6 +14,7 @@ mod listreport;
 mod query;
 mod queryreport;
 mod report;
+mod unfile;
 
 use std::process::ExitCode;
 

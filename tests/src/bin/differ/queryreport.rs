@@ -133,8 +133,9 @@ impl QueryReport {
     pub fn finish(mut self) -> bool {
         let faults = &mut self.faults;
         self.images.finish("query", LEAST_PROGRAMS, faults);
-        self.query.finish("query", &[Cause::OutputTable], faults);
-        let never = [Cause::NodeTable, Cause::OutputTable];
+        let mut never = vec![Cause::OutputTable, Cause::NumberTable, Cause::Misfiled];
+        self.query.finish("query", &never, faults);
+        never.push(Cause::NodeTable);
         self.host.finish("C call", &never, faults);
         let least = self.asked.iter().min().copied().unwrap_or(0);
         println!(

@@ -1,0 +1,2 @@
+-- What an image that was filed and brought back is.
+pub mod Returning
