@@ -68,18 +68,24 @@ struct foqtirel_node {
  * Bytes of stack that a call needs: it keeps all its own tables there, and walks down the lines of the trees.
  *
  * FOQTIREL_STACK_MOST bytes are enough for every call, image, literal and budget. FOQTIREL_STACK_12_RULES bytes are enough
- * for a program with at most 12 defeasible rules, as long as no line of the literal's trees has more than
- * FOQTIREL_STACK_12_LINE arguments; a budget of no more than that makes sure of it. One argument more on a line takes at
- * most FOQTIREL_STACK_LEVEL bytes; the lines are counted in the figures above. foqtirel_check, foqtirel_file,
+ * for a program with at most 12 defeasible rules, as long as no line that the call goes down has more than
+ * FOQTIREL_STACK_12_LINE arguments: none has where the budget is below that (a call goes one argument past its budget), where
+ * the argument list has no more different masks other than 0, or where at most 9 rules are defeasible. One argument more on a
+ * line takes at most FOQTIREL_STACK_LEVEL bytes; the lines are counted in the figures above. foqtirel_check, foqtirel_file,
  * foqtirel_unfile and foqtirel_list grow no trees: FOQTIREL_STACK_CHECK bytes are enough for every check,
  * FOQTIREL_STACK_FILE bytes for every filing and every way back, FOQTIREL_STACK_LIST bytes for every list, and
  * FOQTIREL_STACK_LIST_12 bytes for one of a program with at most 12 defeasible rules.
  *
- * These figures are measured, not proved: the tests run the calls on threads with such stacks. For programs with up to 12
- * defeasible rules and with 16 of them they found enough, with short lines: 76 and 1,100 KiB for foqtirel_list, 132 and
- * 1,156 KiB for foqtirel_trees, 196 and 1,220 KiB for foqtirel_query; and 252 bytes for each argument more on a line. For
- * foqtirel_check, foqtirel_file and foqtirel_unfile 16 KiB are enough, and glibc makes no thread with less. A smaller stack
- * is overrun, as it would be by any C function.
+ * How many arguments a line can have is proved: no more than there are different masks other than 0 in the argument list,
+ * or one where there are none, whatever the budget and the preferences. With d defeasible rules that is at most 2^d - 1, and
+ * one without any. In a list the arguments of one mask stand side by side: count those whose FOQTIREL_MASK is not 0 and
+ * differs from the one before.
+ *
+ * That a call has one frame for each argument of one line at a time, and what a frame takes, is measured, not proved: the
+ * tests run the calls on threads with such stacks. For programs with up to 12 defeasible rules and with 16 of them they found
+ * enough, with short lines: 76 and 1,100 KiB for foqtirel_list, 132 and 1,156 KiB for foqtirel_trees, 196 and 1,220 KiB for
+ * foqtirel_query; and 252 bytes for each argument more on a line. For foqtirel_check, foqtirel_file and foqtirel_unfile
+ * 16 KiB are enough, and glibc makes no thread with less. A smaller stack is overrun, as it would be by any C function.
  */
 #define FOQTIREL_STACK_MOST (4u * 1024u * 1024u)
 #define FOQTIREL_STACK_12_RULES (512u * 1024u)
@@ -90,7 +96,11 @@ struct foqtirel_node {
 #define FOQTIREL_STACK_LIST (2u * 1024u * 1024u)
 #define FOQTIREL_STACK_LIST_12 (128u * 1024u)
 
-/* The answers: what FOQTIREL_CODE or FOQTIREL_CODE64 gives for a result that is no refusal. */
+/*
+ * The answers: what FOQTIREL_CODE or FOQTIREL_CODE64 gives for a result that is no refusal. After FOQTIREL_UNFINISHED a
+ * larger budget, up to FOQTIREL_MOST_NODES, may be enough. Every other answer stays the same with any larger budget that is
+ * not refused: its code, its number of nodes, and that many first entries of the node table, but for their padding.
+ */
 #define FOQTIREL_YES 1u        /* the literal is warranted */
 #define FOQTIREL_NO 2u         /* its complement is warranted */
 #define FOQTIREL_UNDECIDED 3u  /* neither is */

@@ -8,6 +8,8 @@ pub mod fittings;
 pub mod generator;
 pub mod header;
 #[cfg(feature = "library")]
+pub mod lent;
+#[cfg(feature = "library")]
 mod nodes;
 pub mod reference;
 pub mod sides;

@@ -3,13 +3,13 @@
 use std::collections::{BTreeMap, BTreeSet};
 
 use foqtirel_tests::generator::accepted::{accepted, small_programs};
-use foqtirel_tests::generator::{all_applicable, chained, chained_sixteen, Random};
+use foqtirel_tests::generator::{all_applicable, chained, chained_sixteen, taking_turns, Random};
 use foqtirel_tests::reference::attack::{Defeat, Preference};
 use foqtirel_tests::reference::derivation::{contradictory, derived};
-use foqtirel_tests::reference::line::{acceptable, Step};
-use foqtirel_tests::reference::tree::{line_to, warranted, Forest, Mark};
+use foqtirel_tests::reference::line::{acceptable, line_limit, Step};
+use foqtirel_tests::reference::tree::{children, line_to, warranted, Forest, Mark};
 use foqtirel_tests::reference::{
-    read_image, Analysis, Argument, Code, Kind, Literal, NodeEntry, Program, Rule,
+    read_image, Analysis, Argument, Code, Kind, Literal, NodeEntry, Program, Rule, MOST_NODES,
 };
 use foqtirel_tests::vectors::image;
 
@@ -372,6 +372,92 @@ fn check_preorder(forest: &Forest) {
             above = forest.nodes[above.expect("the parent is further up")].parent;
         }
     }
+}
+
+/// The masks of a line differ, and none is empty unless it stands alone: so no line has more nodes than there are different
+/// non-empty masks, or than one.
+fn check_length(line: &[Step], analysis: &Analysis) {
+    let masks: BTreeSet<u32> = line.iter().map(|step| step.argument.mask).collect();
+    assert_eq!(masks.len(), line.len(), "a mask comes twice: {line:?}");
+    assert!(!masks.contains(&0) || line.len() == 1, "{line:?}");
+    let most = line_limit(&analysis.arguments);
+    assert!(line.len() <= most, "more than {most} nodes: {line:?}");
+}
+
+#[test]
+fn no_line_has_more_nodes_than_there_are_masks() {
+    let mut lines = 0;
+    // Lines that are as long as can be, by how long that is.
+    let mut as_long: BTreeMap<usize, usize> = BTreeMap::new();
+    for analysis in small_and_chained(600) {
+        let most = line_limit(&analysis.arguments);
+        for literal in (0..2 * analysis.program.atoms as u8).map(Literal::new) {
+            let Some(forest) = Forest::of(literal, &analysis, 300) else {
+                continue;
+            };
+            for number in 0..forest.nodes.len() {
+                let line = line_to(number, &forest.nodes, &analysis);
+                check_length(&line, &analysis);
+                lines += 1;
+                if line.len() == most {
+                    *as_long.entry(most).or_default() += 1;
+                }
+            }
+        }
+    }
+    println!("{lines} lines; as long as can be: {as_long:?}");
+    assert!(lines > 20_000, "only {lines}");
+    let times = |length: usize| as_long.get(&length).copied().unwrap_or(0);
+    assert!(times(1) > 100 && times(2) > 20, "{as_long:?}");
+}
+
+/// Two sides that take turns until every rule is used up, and facts alone.
+#[test]
+fn some_lines_have_as_many_nodes_as_there_are_masks() {
+    for rules in 0..=16 {
+        let analysis = Analysis::of_image(&taking_turns(rules).image()).expect("a sound image");
+        assert_eq!(line_limit(&analysis.arguments), rules.max(1));
+        let literal = if rules == 0 { 4 } else { 0 };
+        let forest =
+            Forest::of(Literal::new(literal), &analysis, MOST_NODES).expect("a small forest");
+        let lines = (0..forest.nodes.len()).map(|n| line_to(n, &forest.nodes, &analysis).len());
+        assert_eq!(lines.max(), Some(rules.max(1)), "{rules} rules");
+    }
+}
+
+/// A line of replies at random, down to one that has none.
+fn random_line(root: usize, analysis: &Analysis, random: &mut Random) -> Vec<Step> {
+    let mut line = Vec::new();
+    let mut reply = Some((root, None));
+    while let Some((last, defeat)) = reply {
+        let argument = analysis.arguments[last];
+        line.push(Step { argument, defeat });
+        let replies: Vec<(usize, Defeat)> = children(&line, last, analysis).collect();
+        let chosen = (!replies.is_empty()).then(|| random.pick(&replies));
+        reply = chosen.map(|(argument, defeat)| (argument, Some(defeat)));
+    }
+    line
+}
+
+/// In forests that no budget is enough for.
+#[test]
+fn lines_of_enormous_trees_are_no_longer() {
+    let mut random = Random::seeded(SEED);
+    let analysis = Analysis::of_image(&image("deep180")).expect("a sound image");
+    let mut lengths = Vec::new();
+    for literal in Literal::all() {
+        if Forest::of(literal, &analysis, MOST_NODES).is_some() {
+            continue;
+        }
+        for root in analysis.roots_of_forest(literal).repeat(4) {
+            let line = random_line(root, &analysis, &mut random);
+            check_length(&line, &analysis);
+            lengths.push(line.len());
+        }
+    }
+    let (lines, longest) = (lengths.len(), lengths.into_iter().max());
+    println!("{lines} lines, the longest {longest:?}");
+    assert!(lines > 1_000 && longest > Some(100), "{lines} {longest:?}");
 }
 
 #[test]

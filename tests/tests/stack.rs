@@ -78,9 +78,10 @@ impl Call {
     }
 }
 
-/// What a process is to call on its small stack: for each literal of each image, with the greatest budget.
+/// What a process is to call on its small stack: for each literal of each image.
 struct Order {
     call: Call,
+    budget: u32,
     questions: Vec<Question>,
 }
 
@@ -105,11 +106,15 @@ fn question(call: Call, image: Vec<u8>, literals: Vec<u32>) -> Question {
 }
 
 /// `nothing`, or a call and its images: `rules=N` applicable rules, `upto=N` rules at most, or
-/// the name of a vector with one literal.
+/// the name of a vector with one literal; then `budget=N`, where it is not the greatest.
 fn order_of(what: &str) -> Option<Order> {
-    let (word, images) = what.split_once(' ')?;
+    let (word, rest) = what.split_once(' ')?;
     let call = Call::ALL.into_iter().find(|call| call.name() == word);
     let call = call.unwrap_or_else(|| panic!("no such call: {what}"));
+    let (images, budget) = match rest.split_once(" budget=") {
+        Some((images, number)) => (images, number.parse().expect("a budget")),
+        None => (rest, BUDGET),
+    };
     let (sort, number) = images.split_once('=').expect("a sort of images");
     let number: usize = number.parse().expect("a number");
     let images = match sort {
@@ -117,7 +122,11 @@ fn order_of(what: &str) -> Option<Order> {
         "upto" => images_up_to(number),
         name => {
             let questions = vec![question(call, vectors::image(name), vec![number as u32])];
-            return Some(Order { call, questions });
+            return Some(Order {
+                call,
+                budget,
+                questions,
+            });
         }
     };
     let literals = |image: &[u8]| match image.first() {
@@ -130,6 +139,7 @@ fn order_of(what: &str) -> Option<Order> {
     });
     Some(Order {
         call,
+        budget,
         questions: questions.collect(),
     })
 }
@@ -150,6 +160,7 @@ fn carry_out(order: &Order, tables: &mut Tables) -> usize {
         arguments,
         nodes,
     } = tables;
+    let budget = order.budget;
     let mut answered = 0;
     for question in &order.questions {
         let Question { image, numbers, .. } = question;
@@ -159,8 +170,8 @@ fn carry_out(order: &Order, tables: &mut Tables) -> usize {
                 Call::File => library::file(image, bytes, entries) >> 32 != 0,
                 Call::Unfile => library::unfile(image, numbers, bytes) >> 32 != 0,
                 Call::List => library::list(image, arguments) >> 32 != 0,
-                Call::Trees => library::trees(image, literal, BUDGET, arguments, nodes) >> 32 != 0,
-                Call::Query => library::query(image, literal, BUDGET) >> 16 == 0,
+                Call::Trees => library::trees(image, literal, budget, arguments, nodes) >> 32 != 0,
+                Call::Query => library::query(image, literal, budget) >> 16 == 0,
             };
             answered += usize::from(!refused);
         }
@@ -285,6 +296,32 @@ fn the_figures_of_the_header_hold() {
     }
     print!("{lines}");
     assert!(held, "{lines}");
+    // how many masks nine rules have, so that no line is longer
+    let of_nine = (1 << 9) - 1;
+    assert!(of_nine <= header["STACK_12_LINE"], "what is said of nine");
+}
+
+/// A call with a smaller budget goes one argument past it at most, and then says UNFINISHED.
+#[test]
+fn a_smaller_budget_takes_less_stack() {
+    let (name, shallow, deep, length) = DEEP;
+    let mut lines = String::new();
+    for call in Call::ALL.into_iter().filter(|call| call.answers()) {
+        let word = call.name();
+        let shallow = least_stack(&format!("{word} {name}={shallow}"));
+        let least = |budget: usize| least_stack(&format!("{word} {name}={deep} budget={budget}"));
+        let whole = least(length);
+        let each = (whole - shallow) / (length - 1);
+        for budget in [0, 30, 60, 120] {
+            let (stack, most) = (least(budget), shallow + budget * each + 2 * PAGE);
+            lines += &format!(
+                "least stack of {word} for a line of {length} with a budget of {budget}: {} KiB\n",
+                stack / KIB
+            );
+            assert!(stack <= most && most < whole, "{lines}");
+        }
+    }
+    print!("{lines}");
 }
 
 /// Measured, not judged.

@@ -1,6 +1,6 @@
 //! An answer in words, and its trees in a terminal.
 
-use crate::engine::{Answer, Argument, Verdict};
+use crate::engine::{Answer, Argument, Verdict, MOST_NODES};
 use crate::preference::{beats, listing};
 use crate::program::Program;
 use crate::reason::{Attack, Reasons, Standing};
@@ -106,9 +106,13 @@ pub fn meaning(literal: &str, complement: &str, verdict: &Verdict) -> String {
         Answer::Undecided => format!("neither {literal} nor {complement} is warranted"),
         Answer::Unknown => format!("no rule mentions {atom}"),
         Answer::Unfinished => {
+            let budget = verdict.nodes;
+            let larger = match budget {
+                MOST_NODES => ", and there is no larger one".to_string(),
+                _ => format!("; a larger one, up to {MOST_NODES}, may be enough"),
+            };
             format!(
-                "the trees for {literal} and {complement} have more nodes than the budget of {}",
-                verdict.nodes
+                "the trees for {literal} and {complement} have more nodes than the budget of {budget}{larger}"
             )
         }
     }

@@ -110,9 +110,12 @@ Prints the answer, the number of nodes of the trees it rests on, and what it mea
 All five are answers, with exit status 0; a script tells them apart by the first
 word: `foqtirel ask FILE LITERAL | cut -d' ' -f1`.
 
-N is 0 to 4096, and 4096 where it is not given. Quote a literal with `~` or `(`
-for the shell: '~fits'. In an image, atoms are a0, a1, .., and a literal may be
-given by its number.
+N is 0 to 4096, and 4096 where it is not given. After UNFINISHED with less, ask
+again with more; any other answer stays the same with a larger budget, and so do
+its trees.
+
+Quote a literal with `~` or `(` for the shell: '~fits'. In an image, atoms are
+a0, a1, .., and a literal may be given by its number.
 ";
 
 pub const EXPLAIN: &str = "\

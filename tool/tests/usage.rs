@@ -47,6 +47,8 @@ fn help_names_every_answer_and_how_to_tell_them_apart() {
         }
     }
     assert!(run(&["compile", "--help"]).out.contains("--names"));
+    let page = run(&["ask", "--help"]).out;
+    assert!(page.contains("After UNFINISHED"), "{page}");
 }
 
 #[test]
@@ -167,7 +169,13 @@ fn answers() {
         ),
         (
             &["ask", "--budget", "5", "shop.delp", "pod_fits"],
-            "UNFINISHED (5 nodes): the trees for pod_fits and ~pod_fits",
+            "UNFINISHED (5 nodes): the trees for pod_fits and ~pod_fits have more nodes than the budget of 5; \
+             a larger one, up to 4096, may be enough.\n",
+        ),
+        (
+            &["ask", "../tests/vectors/n4097.img", "28"],
+            "UNFINISHED (4096 nodes): the trees for a14 and ~a14 have more nodes than the budget of 4096, \
+             and there is no larger one.\n",
         ),
         (
             &["explain", "shop.delp", "pod_fits", "--budget=5"],
@@ -192,6 +200,26 @@ fn answers() {
             ran.out,
             ran.err
         );
+    }
+}
+
+/// Six nodes are needed, and with more than that nothing changes.
+#[test]
+fn an_answer_stays_with_a_larger_budget() {
+    let explained = |budget: u32| {
+        let budget = format!("--budget={budget}");
+        let ran = run(&["explain", "shop.delp", "pod_fits", &budget]);
+        assert_eq!(ran.status, 0, "{}", ran.err);
+        ran.out
+    };
+    for budget in 0..6 {
+        let lead = format!("UNFINISHED ({budget} node");
+        assert!(explained(budget).starts_with(&lead), "{budget}");
+    }
+    let answer = explained(6);
+    assert!(answer.contains("YES (6 nodes): "), "{answer}");
+    for budget in [7, 8, 100, 4095, 4096] {
+        assert_eq!(explained(budget), answer, "{budget}");
     }
 }
 

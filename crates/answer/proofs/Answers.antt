@@ -77,9 +77,9 @@ module _ (b n : ℕ) where
   nodes-by : (o v w m : Bool) → (T (not v) → n ≤ b) → nodesOf (answerOf o v w m b n) ≤ b
   nodes-by false v w m h = omega arith
   nodes-by true true w m h = omega arith
-  nodes-by true false true m h = h tt
-  nodes-by true false false true h = h tt
-  nodes-by true false false false h = h tt
+  nodes-by true false true m h = omega (arith, h tt)
+  nodes-by true false false true h = omega (arith, h tt)
+  nodes-by true false false false h = omega (arith, h tt)
 
   -- N of them, where it is within the budget
   finished-by : (o v w m : Bool) → T o → T (not v) → nodesOf (answerOf o v w m b n) ≡ n

@@ -17,6 +17,22 @@ pub fn all_applicable(defeasible: usize) -> Description {
     }
 }
 
+/// So many defeasible rules, at most 16, that speak for literal 2 and against it in turn, each beating the one before it.
+///
+/// Each rule by itself is an argument and no other non-empty mask is one, so the line of all the rules has as many nodes as a
+/// line can have. The first of them is the only argument for literal 0, which has no other root.
+pub fn taking_turns(defeasible: usize) -> Description {
+    let mut text = "4; 6; 8; 10; 12; 14; 16; 18; 2<0".to_string();
+    for turn in 0..defeasible {
+        let head = if turn == 0 { 0 } else { 2 + turn % 2 };
+        text += &format!("; d {head}<{}", 4 + turn / 2 * 2);
+    }
+    for turn in 1..defeasible {
+        text += &format!("; ({},{})", 9 + turn, 8 + turn);
+    }
+    Description::parse(&text).expect("a program")
+}
+
 /// How many arguments `many_arguments` has.
 pub const MANY_ARGUMENTS: usize = 1 + 16 + (10 + 10 + 20) + 39 * 2000;
 

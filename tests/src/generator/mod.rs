@@ -22,7 +22,7 @@ pub mod unfiling;
 pub use accepted::accepted;
 pub use chained::{chained, chained_sixteen};
 pub use description::{Description, Parts, RuleText};
-pub use listing::{all_applicable, many_arguments, MANY_ARGUMENTS};
+pub use listing::{all_applicable, many_arguments, taking_turns, MANY_ARGUMENTS};
 pub use random::Random;
 pub use scenario::{all_scenarios, Arrangement, Scenario};
 

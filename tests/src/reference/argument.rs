@@ -17,6 +17,14 @@ impl Argument {
         self.mask * 128 + u32::from(self.literal.number())
     }
 
+    /// The argument of an entry.
+    pub fn of_entry(entry: u32) -> Argument {
+        Argument {
+            mask: entry / 128,
+            literal: Literal::new((entry % 128) as u8),
+        }
+    }
+
     pub fn is_sub_argument_of(self, other: Argument) -> bool {
         self.mask & !other.mask == 0
     }

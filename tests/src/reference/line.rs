@@ -1,5 +1,7 @@
 //! Definitions 5 and 6: argumentation lines.
 
+use std::collections::BTreeSet;
+
 use super::argument::Argument;
 use super::attack::Defeat;
 use super::literal::LiteralSet;
@@ -28,6 +30,14 @@ pub fn still_acceptable(line: &[Step], derived_by: &[LiteralSet]) -> bool {
         && concordant(line, 1, derived_by)
         && no_sub_argument_of_earlier(line)
         && blocking_answered_properly(line)
+}
+
+/// The most nodes that a line of any tree can have: as many as there are different non-empty masks in the argument list, or
+/// one where there are none.
+pub fn line_limit(arguments: &[Argument]) -> usize {
+    let masks: BTreeSet<Mask> = arguments.iter().map(|argument| argument.mask).collect();
+    let non_empty = masks.into_iter().filter(|&mask| mask != 0);
+    non_empty.count().max(1)
 }
 
 /// Π with all masks at positions of one parity isn't contradictory.

@@ -135,7 +135,7 @@ pub fn line_to(number: usize, nodes: &[Node], analysis: &Analysis) -> Vec<Step> 
 }
 
 /// All defeaters of the last argument that keep the line acceptable, in list order.
-fn children<'a>(
+pub fn children<'a>(
     line: &'a [Step],
     last: usize,
     analysis: &'a Analysis,

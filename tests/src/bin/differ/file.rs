@@ -7,11 +7,11 @@ use foqtirel_tests::generator::filing::{alike, retyped, CHANGES};
 use foqtirel_tests::generator::{
     accepted, chained, changed, damaged, Description, Random, MADE_BY_RULE,
 };
+use foqtirel_tests::lent;
 use foqtirel_tests::reference::{self, MOST_NODES};
 use foqtirel_tests::vectors;
 
 use crate::filereport::{result_of, FileReport};
-use crate::lent;
 use crate::unfile;
 
 const MIXED: usize = 4_000;

@@ -3,12 +3,12 @@
 use foqtirel_binding as library;
 use foqtirel_tests::generator::accepted::small_programs;
 use foqtirel_tests::generator::{accepted, damaged, many_arguments, Case, Random, MANY_ARGUMENTS};
+use foqtirel_tests::lent;
 use foqtirel_tests::reference::image::defeasible_rules;
 use foqtirel_tests::reference::{Analysis, Refusal};
 use foqtirel_tests::vectors;
 
 use crate::images::{still_sound, Source};
-use crate::lent;
 use crate::listreport::ListReport;
 
 const MIXED: usize = 4_900;

@@ -8,7 +8,6 @@ mod file;
 mod filereport;
 mod granted;
 mod images;
-mod lent;
 mod list;
 mod listreport;
 mod query;

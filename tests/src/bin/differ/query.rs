@@ -7,6 +7,7 @@
 use foqtirel_binding as library;
 use foqtirel_tests::generator::accepted::{contested_programs, small_programs};
 use foqtirel_tests::generator::{accepted, chained, chained_sixteen, damaged, Case, Random};
+use foqtirel_tests::lent;
 use foqtirel_tests::reference::tree::{Forest, NodeEntry};
 use foqtirel_tests::reference::{
     host_number, Analysis, Answer, Argument, Literal, Refusal, MOST_NODES,
@@ -15,7 +16,6 @@ use foqtirel_tests::vectors;
 
 use crate::granted::Granted;
 use crate::images::{still_sound, Source};
-use crate::lent;
 use crate::queryreport::{QueryReport, LITERALS};
 
 const MIXED: usize = 8_500;

@@ -4,11 +4,11 @@
 use foqtirel_binding as library;
 use foqtirel_tests::generator::unfiling::{faulty, numbers};
 use foqtirel_tests::generator::Random;
+use foqtirel_tests::lent;
 use foqtirel_tests::reference;
 
 use crate::file::{filed, rule_count, Filed};
 use crate::filereport::{result_of, FileReport};
-use crate::lent;
 
 /// Faulty tables of numbers that are tried on each image.
 const FAULTY: usize = 3;

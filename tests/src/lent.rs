@@ -1,7 +1,8 @@
 //! Tables to lend to a call.
 
 use foqtirel_binding::Node;
-use foqtirel_tests::generator::Random;
+
+use crate::generator::Random;
 
 /// Entries on each side of the table that no call may touch either.
 const MARGIN: usize = 16;
@@ -23,6 +24,7 @@ impl<Entry: Clone> Lent<Entry> {
         }
     }
 
+    /// The table itself, without what is around it.
     pub fn table(&mut self) -> &mut [Entry] {
         &mut self.memory[MARGIN..MARGIN + self.length]
     }

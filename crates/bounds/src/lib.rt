@@ -1,0 +1,1 @@
+// More budget, and how long a line can get. Nothing here runs.
