@@ -3,16 +3,16 @@ use mathlib.Core.Path.{_≡_, sym, _∙_}
 use mathlib.Core.Bool.{true, false, false≢true}
 use mathlib.Core.List.{List, List·Memᴰ}
 use mathlib.Core.Logic.{_⊎_, ⊎-elim}
-use Prim.Native.Nat.{ℕ, _^_, _<_, _≤_}
+use Prim.Native.Nat.{ℕ, _^_, _<_}
 use Rattle.literals.specs.Sets.{has, hasAll, within}
 use Rattle.literals.proofs.Members.{has-bound, members-below}
 use Rattle.literals.proofs.Lists.{each-hasAll}
 use Rattle.literals.proofs.Within.{within-each, each-within, within-refl, within-trans, within-antisym}
 use Rattle.program.specs.Program.{Rule}
 use Rattle.derivation.specs.Derivation.{HeadsBelow}
-use Rattle.derivation.specs.Closure.{round, rounds, enough, closure}
+use Rattle.derivation.specs.Closure.{round, enough, closure}
 use Rattle.derivation.proofs.Rounds.{ClosedUnder, Closed, round-within, round-ind, round-closed}
-use Rattle.derivation.proofs.Rounds.{missing, missing-le-length, rounds-stop, rounds-ind, rounds-last}
+use Rattle.derivation.proofs.Rounds.{missing-le-length, rounds-stop, rounds-ind, rounds-last}
 
 module _ (rules : List Rule) where
   -- a predicate of the given literals that the rules keep holds of all that is derived
@@ -59,24 +59,6 @@ module _ (rules : List Rule) where
       (each-within (round rules s) (closure rules s)
       (round-ind (λ (k : ℕ). has (closure rules s) k ≡ true) rules s (closure-closed s)
       (within-each s (closure rules s) (closure-contains s))))
-
-  -- as many rounds as there are heads missing are enough
-  pub closure-rounds : (n s : ℕ) → missing s rules ≤ n → rounds n rules s ≡ closure rules s
-  closure-rounds n s l =
-      sym (closure-fixed (rounds n rules s) (rounds-last rules n s l)) ∙ closure-cut s (rounds n rules s) grown inside
-    where
-      grown : within s (rounds n rules s) ≡ true
-      grown =
-          rounds-ind (λ (x : ℕ). within s x ≡ true) rules (λ x h. within-trans s x (round rules x) h (round-within rules x)) n s
-          (within-refl s)
-
-      inside : within (rounds n rules s) (closure rules s) ≡ true
-      inside =
-          rounds-ind (λ (x : ℕ). within x (closure rules s) ≡ true) rules
-          (λ x h.
-          each-within (round rules x) (closure rules s)
-          (round-ind (λ (k : ℕ). has (closure rules s) k ≡ true) rules x (closure-closed s) (within-each x (closure rules s) h)))
-          n s (closure-contains s)
 
   pub closure-below : (n s : ℕ) → HeadsBelow n rules → s < 2 ^ n → closure rules s < 2 ^ n
   closure-below n s h l =

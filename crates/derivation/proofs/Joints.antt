@@ -61,10 +61,9 @@ sifted-next t d i j u sifted (inr (passed, e)) = rw e (record {
     here k l n (no q) = sifted .apart k (omega arith) n
 
 -- a strict rule that does not join
-passed-cases : (a b c : Bool) → a ≡ true → ((a && b) && not c) ≡ false → (b ≡ false) ⊎ (c ≡ true)
-passed-cases true true true p e = inr refl
-passed-cases true true false p e = absurd (false≢true (sym e))
-passed-cases true false c p e = inl refl
+passed-cases : (a b c : Bool) → a ≡ true → ((a && not c) && b) ≡ false → (b ≡ false) ⊎ (c ≡ true)
+passed-cases true b true p e = inr refl
+passed-cases true b false p e = inl e
 passed-cases false b c p e = absurd (false≢true p)
 
 strict-need : (k : Kind) (b : ℕ) → isDefeasible k ≡ false → needOf k b ≡ 0

@@ -6,5 +6,7 @@ pub mod Contradictions
 pub mod Choices
 pub mod Tables
 pub mod Parts
+pub mod Gatherings
+pub mod Evaluated
 mod Turns
 mod Joints

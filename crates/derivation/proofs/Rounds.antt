@@ -158,7 +158,7 @@ unfolding rounds
 rounds-stop zero rules s e = refl
 rounds-stop (suc n) rules s e = rw (eq-eqb (round rules s) s e, rounds)
 
-pub rounds-next : (n : ℕ) (rules : List Rule) (s : ℕ) → (round rules s ≡ s → ⊥) → rounds (suc n) rules s ≡ rounds n rules (round rules s)
+rounds-next : (n : ℕ) (rules : List Rule) (s : ℕ) → (round rules s ≡ s → ⊥) → rounds (suc n) rules s ≡ rounds n rules (round rules s)
 unfolding rounds
 rounds-next n rules s e = ap (λ (t : Bool). pick t) (ne-eqb (round rules s) s e)
   where

@@ -2,35 +2,27 @@
 // defeasible ones whose bit is in a mask.
 ghost use mathlib.Core.Path.{_≡_};
 ghost use mathlib.Core.Bool.{true, false};
-ghost use Prim.Native.Nat.{ℕ, _+_, _<_};
-ghost use Rattle.literals.specs.Sets.{has as «hasOf»};
+ghost use Prim.Native.Nat.{ℕ, _+_, _^_, _<_, _≤_};
+ghost use lib.Count.{ones};
+ghost use Rattle.literals.specs.Sets.{has as «hasOf», within as «withinOf»};
 ghost use Rattle.literals.specs.inside.Words.{setOf};
-ghost use Rattle.program.specs.Program.{Rule, Program, Π-mask, Π};
-ghost use Rattle.program.specs.inside.Table.{headAt, ruleCount, Row, Holds, Shaped};
-ghost use Rattle.derivation.specs.Closure.{round as «roundOf», closure, excludes as «excludesOf»};
-ghost use Rattle.derivation.specs.inside.Steps.{fireChosen, joinsAt, addsAt};
+ghost use Rattle.program.specs.Program.{Program, Π-mask, Π};
+ghost use Rattle.program.specs.inside.Table.{headAt, ruleCount, Holds, Shaped};
+ghost use Rattle.derivation.specs.Closure.{closure, excludes as «excludesOf»};
+ghost use Rattle.derivation.specs.Gathering.{Rounded, Gathers};
+ghost use Rattle.derivation.specs.inside.Steps.{onAt, Fired, joinsAt, addsAt};
 ghost use Rattle.derivation.specs.inside.Parts.{RulesOf, StrictOf, Parted};
 use literals::LiteralSet;
 use literals::masks;
 use program::RuleTable;
 
-// All that is derived: rounds over the rules until one adds nothing. A round that adds something adds the head of one rule
-// more, so that there are no more rounds than rules.
+// All that is derived: what is gathered, without the count.
 pub fn close(table: &RuleTable, mask: u64, given: LiteralSet) -> LiteralSet
     requires { ⌜ Shaped (now table) ⌝ }
     ensures { λ r. ⌜ ((p : Program) → Holds p (now (table .entry)) → setOf r ≡ closure (Π-mask mask (p .rules)) (setOf given)) ⌝ }
 {
-    let mut s = given;
-    let mut left = program::rule_count(table);
-    while 0 < left {
-        let t = round(table, mask, s);
-        if t.same(s) {
-            return s;
-        }
-        s = t;
-        left -= 1;
-    }
-    s
+    let gathered = gather(table, mask, given);
+    gathered.set
 }
 
 // Two literals exclude each other: Π with both as facts is contradictory.
@@ -91,14 +83,13 @@ pub fn settle(table: &RuleTable, strict: Strict, s: LiteralSet) -> LiteralSet
     t
 }
 
-// Rule i is a joint rule.
+// Rule i is a joint rule. The body is read only if the rule is strict and its head is not derived.
 fn joins(table: &RuleTable, i: u64, derived: LiteralSet) -> bool
     requires { ⌜ (i < 96) × (headAt (now table) i < 128) ⌝ }
     ensures { λ r. ⌜ r ≡ joinsAt (now (table .entry)) i (setOf derived) ⌝ }
 {
-    (program::need(table, i) == 0)
-        & (program::body(table, i).count() > 1)
-        & !derived.has(program::head(table, i))
+    (program::need(table, i) == 0) & !derived.has(program::head(table, i))
+        && (program::body(table, i).count() > 1)
 }
 
 // Some rule of the word, the first of which is rule `first`, adds its head.
@@ -118,7 +109,8 @@ fn any_adds(table: &RuleTable, rules: u64, first: u64, s: LiteralSet) -> bool
     false
 }
 
-// Rule i adds its head to the set: it has its whole body and not its head.
+// Rule i adds its head to the set: it has its whole body and not its head. Nothing is gathered here: the body comes first, since
+// of most joint rules it is not there.
 fn adds(table: &RuleTable, i: u64, s: LiteralSet) -> bool
     requires { ⌜ (i < 96) × (headAt (now table) i < 128) ⌝ }
     ensures { λ r. ⌜ r ≡ addsAt (now (table .entry)) i (setOf s) ⌝ }
@@ -126,32 +118,95 @@ fn adds(table: &RuleTable, i: u64, s: LiteralSet) -> bool
     program::body(table, i).within(s) && !s.has(program::head(table, i))
 }
 
-// Each rule once, in table order.
-fn round(table: &RuleTable, mask: u64, start: LiteralSet) -> LiteralSet
-    requires { ⌜ Shaped (now table) ⌝ }
-    ensures { λ r. ⌜ ((p : Program) → Holds p (now (table .entry)) → setOf r ≡ roundOf (Π-mask mask (p .rules)) (setOf start)) ⌝ }
-{
-    let rules = program::rule_count(table);
-    let mut s = start;
-    let mut i: u64 = 0;
-    while i < rules {
-        s = fire(table, i, mask, s);
-        i += 1;
-    }
-    s
+// A set, with how many rounds led to it.
+struct Gathered {
+    set: LiteralSet,
+    rounds: u64,
 }
 
-// The set with the head of rule i, if the rule is chosen and its whole body is in the set.
-fn fire(table: &RuleTable, i: u64, mask: u64, s: LiteralSet) -> LiteralSet
-    requires { ⌜ (i < 96) × (headAt (now table) i < 128) ⌝ }
-    ensures { λ t. ⌜ ((r : Rule) (b : ℕ) → Row r b (now (table .entry)) i → setOf t ≡ fireChosen mask b r (setOf s)) ⌝ }
+// A set, with how many bodies have been read in the round.
+struct Turned {
+    set: LiteralSet,
+    read: u64,
+}
+
+// Rounds, the first of which that adds nothing is the last. Each other one adds a literal, so that there is at most one round
+// more than literals are added.
+fn gather(table: &RuleTable, mask: u64, given: LiteralSet) -> Gathered
+    requires { ⌜ Shaped (now table) ⌝ }
+    ensures { λ r. ⌜ r .rounds + ones (setOf given) ≤ ones (setOf (r .set)) + 1 ⌝ }
+    ensures { λ r. ⌜ ((p : Program) → Holds p (now (table .entry))
+        → Gathers (Π-mask mask (p .rules)) (setOf given) (setOf (r .set)) (r .rounds)) ⌝ }
 {
-    let need = program::need(table, i);
-    if need & mask != need {
-        return s;
+    let mut s = given;
+    let mut rounds: u64 = 0;
+    loop {
+        let turned = round(table, mask, s);
+        let t = turned.set;
+        rounds += 1;
+        if t.same(s) {
+            return Gathered {
+                set: s,
+                rounds: rounds,
+            };
+        }
+        s = t;
     }
+}
+
+// Each rule once, in table order.
+fn round(table: &RuleTable, mask: u64, start: LiteralSet) -> Turned
+    requires { ⌜ Shaped (now table) ⌝ }
+    ensures { λ r. ⌜ (withinOf (setOf start) (setOf (r .set)) ≡ true) × (setOf (r .set) < 2 ^ 128) ⌝ }
+    ensures { λ r. ⌜ ((p : Program) → Holds p (now (table .entry))
+        → Rounded (Π-mask mask (p .rules)) (setOf start) (setOf (r .set)) (r .read)) ⌝ }
+{
+    let rules = program::rule_count(table);
+    let mut done = Turned {
+        set: start,
+        read: 0,
+    };
+    let mut i: u64 = 0;
+    while i < rules {
+        done = fire(table, mask, i, done);
+        i += 1;
+    }
+    done
+}
+
+// The turn of rule i. A rule that is off, or whose head is there, is passed over; of any other the body is read, which counts,
+// and if the set has all of it the head goes in.
+fn fire(table: &RuleTable, mask: u64, i: u64, done: Turned) -> Turned
+    requires { ⌜ (i < 96) × (headAt (now table) i < 128) ⌝ }
+    requires { ⌜ done .read < 96 ⌝ }
+    ensures { λ r. ⌜ Fired mask (now (table .entry)) i (setOf (done .set)) (setOf (r .set)) (done .read) (r .read) ⌝ }
+{
+    let s = done.set;
+    let read = done.read;
+    if !is_on(table, mask, i) {
+        return Turned { set: s, read: read };
+    }
+    let head = program::head(table, i);
+    if s.has(head) {
+        return Turned { set: s, read: read };
+    }
+    let counted = read + 1;
     if program::body(table, i).within(s) {
-        return s.insert(program::head(table, i));
+        return Turned {
+            set: s.insert(head),
+            read: counted,
+        };
     }
-    s
+    Turned {
+        set: s,
+        read: counted,
+    }
+}
+
+// Rule i is on: it is strict, or the mask has its bit.
+fn is_on(table: &RuleTable, mask: u64, i: u64) -> bool
+    requires { ⌜ i < 96 ⌝ }
+    ensures { λ r. ⌜ r ≡ onAt mask (now (table .entry)) i ⌝ }
+{
+    masks::within(program::need(table, i), mask)
 }

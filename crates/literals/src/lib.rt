@@ -1,7 +1,7 @@
 // Sets of the 128 literals, two words by value, and masks of defeasible rules. Each operation is one on the number that
 // the words hold: the sum of 2^l over the members l.
 ghost use mathlib.Core.Path.{_≡_};
-ghost use Prim.Native.Nat.{_<_};
+ghost use Prim.Native.Nat.{_<_, _%_};
 ghost use lib.Dec.{eqb};
 ghost use lib.Count.{ones};
 ghost use Rattle.literals.specs.Sets.{has as «hasOf», insert as «insertOf», union as «unionOf»};
@@ -54,11 +54,15 @@ impl LiteralSet {
         requires { ⌜ literal < 128 ⌝ }
         ensures { λ r. ⌜ r ≡ hasOf (setOf self) literal ⌝ }
     {
-        if literal < 64 {
-            (self.lo >> literal) % 2 == 1
-        } else {
-            (self.hi >> (literal - 64)) % 2 == 1
-        }
+        masks::has(self.word(literal), literal % 64)
+    }
+
+    // The word with the literal's digit. Where it is chosen first, one word is shifted and not both.
+    fn word(self, literal: u64) -> u64
+        requires { ⌜ literal < 128 ⌝ }
+        ensures { λ r. ⌜ hasOf r (literal % 64) ≡ hasOf (setOf self) literal ⌝ }
+    {
+        if literal < 64 { self.lo } else { self.hi }
     }
 
     // Each member is one of the other set.
