@@ -3,8 +3,9 @@
     cc -shared -Wl,--whole-archive target/staticlib/libfoqtirel.a -Wl,--no-whole-archive -o target/libfoqtirel.so
     python3 examples/ask.py target/libfoqtirel.so IMAGE LITERAL [BUDGET]
 
-It prints the arguments of the program, then the trees and the answer as examples/trees.c does. The exit status is 0 for an
-answer, 1 for a refusal, 2 where there was nothing to ask, and 3 where a file could not be read or the answer not be written.
+It prints the arguments of the program, then the trees and the answer as examples/trees.c does; of a program whose strict
+rules contradict each other, the numbers of some that do. The exit status is 0 for an answer, 1 for a refusal, 2 where there
+was nothing to ask, and 3 where a file could not be read or the answer not be written.
 """
 
 import ctypes
@@ -19,6 +20,7 @@ ANSWERS = {1: "YES", 2: "NO", 3: "UNDECIDED", 4: "UNKNOWN", 5: "UNFINISHED"}
 WITHOUT_TREES = ("UNKNOWN", "UNFINISHED")
 KINDS = {0: "root", 1: "proper", 2: "blocking"}
 MARKS = {1: "U", 2: "D"}
+STRICT_CONTRADICTION = 14
 
 ANSWERED, REFUSED, MISUSED, FAILED = range(4)
 
@@ -39,6 +41,7 @@ class Refused(Exception):
 
     def __init__(self, number, place):
         super().__init__(f"refused {number} {place}")
+        self.number = number
 
 
 class Foqtirel:
@@ -50,8 +53,9 @@ class Foqtirel:
         asked = (ctypes.c_uint32, ctypes.c_uint32)
         arguments = (ctypes.POINTER(ctypes.c_uint32), ctypes.c_size_t)
         nodes = (ctypes.POINTER(Node), ctypes.c_size_t)
-        out = numbers = (ctypes.POINTER(ctypes.c_uint8), ctypes.c_size_t)
+        out = numbers = marks = (ctypes.POINTER(ctypes.c_uint8), ctypes.c_size_t)
         self._check = declared(library.foqtirel_check, ctypes.c_uint64, image)
+        self._clash = declared(library.foqtirel_clash, ctypes.c_uint64, image + marks)
         self._file = declared(library.foqtirel_file, ctypes.c_uint64, image + out + numbers)
         self._unfile = declared(library.foqtirel_unfile, ctypes.c_uint64, image + numbers + out)
         self._list = declared(library.foqtirel_list, ctypes.c_uint64, image + arguments)
@@ -60,6 +64,12 @@ class Foqtirel:
 
     def check(self, image):
         granted(self._check(image, len(image)))
+
+    def clash(self, image):
+        """The numbers of strict rules that contradict each other, and no longer do without any single one of them."""
+        marks = (ctypes.c_uint8 * MOST_RULES)()
+        count = granted(self._clash(image, len(image), marks, len(marks)))
+        return [rule for rule in range(count) if marks[rule] == 1]
 
     def file(self, image):
         """The filed form, the same bytes for the same program in whatever order it was typed, and the order: a table with
@@ -129,10 +139,21 @@ def told(literal, arguments, nodes):
     return [line for root, tree in trees.items() for line in [f"for {root}:"] + tree]
 
 
+def check(foqtirel, image):
+    """Raises Refused, with the rules that clash where some do."""
+    try:
+        foqtirel.check(image)
+    except Refused as refused:
+        if refused.number == STRICT_CONTRADICTION:
+            rules = " ".join(str(rule) for rule in foqtirel.clash(image))
+            refused.args = (f"{refused}: rules {rules}",)
+        raise
+
+
 def ask(library, image, literal, budget):
-    """All six calls. Raises Refused."""
+    """Every call but `clash`, which is for an image that is refused with 14. Raises Refused."""
     foqtirel = Foqtirel(library)
-    foqtirel.check(image)
+    check(foqtirel, image)
     arguments = foqtirel.list(image)
     answer, count, nodes = foqtirel.trees(image, literal, budget)
     form, numbers = foqtirel.file(image)

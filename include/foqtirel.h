@@ -1,11 +1,11 @@
 /*
- * Foqtirel: checks the program of an image, writes its filed form and goes back from it, lists its arguments, and says
- * whether it warrants a literal, with the literal's dialectical trees or without.
+ * Foqtirel: checks the program of an image, marks what clashes in it, writes its filed form and goes back from it, lists its
+ * arguments, and says whether it warrants a literal, with the literal's dialectical trees or without.
  *
  * Link with libfoqtirel.a, which `rt staticlib foqtirel` writes to target/staticlib/, for x86-64 and the System V calling
  * convention. It needs nothing else but the memory functions of a C library: memset, memcpy, memmove, memcmp.
  *
- * Its code is position independent, so that a shared library can be made of it, which offers the six calls:
+ * Its code is position independent, so that a shared library can be made of it, which offers the seven calls:
  *
  *     cc -shared -Wl,--whole-archive target/staticlib/libfoqtirel.a -Wl,--no-whole-archive -o target/libfoqtirel.so
  *
@@ -71,9 +71,9 @@ struct foqtirel_node {
  * for a program with at most 12 defeasible rules, as long as no line that the call goes down has more than
  * FOQTIREL_STACK_12_LINE arguments: none has where the budget is below that (a call goes one argument past its budget), where
  * the argument list has no more different masks other than 0, or where at most 9 rules are defeasible. One argument more on a
- * line takes at most FOQTIREL_STACK_LEVEL bytes; the lines are counted in the figures above. foqtirel_check, foqtirel_file,
- * foqtirel_unfile and foqtirel_list grow no trees: FOQTIREL_STACK_CHECK bytes are enough for every check,
- * FOQTIREL_STACK_FILE bytes for every filing and every way back, FOQTIREL_STACK_LIST bytes for every list, and
+ * line takes at most FOQTIREL_STACK_LEVEL bytes; the lines are counted in the figures above. foqtirel_check, foqtirel_clash,
+ * foqtirel_file, foqtirel_unfile and foqtirel_list grow no trees: FOQTIREL_STACK_CHECK bytes are enough for every check and
+ * every clash, FOQTIREL_STACK_FILE bytes for every filing and every way back, FOQTIREL_STACK_LIST bytes for every list, and
  * FOQTIREL_STACK_LIST_12 bytes for one of a program with at most 12 defeasible rules.
  *
  * How many arguments a line can have is proved: no more than there are different masks other than 0 in the argument list,
@@ -83,9 +83,10 @@ struct foqtirel_node {
  *
  * That a call has one frame for each argument of one line at a time, and what a frame takes, is measured, not proved: the
  * tests run the calls on threads with such stacks. For programs with up to 12 defeasible rules and with 16 of them they found
- * enough, with short lines: 76 and 1,100 KiB for foqtirel_list, 132 and 1,156 KiB for foqtirel_trees, 196 and 1,220 KiB for
- * foqtirel_query; and 252 bytes for each argument more on a line. For foqtirel_check, foqtirel_file and foqtirel_unfile
- * 16 KiB are enough, and glibc makes no thread with less. A smaller stack is overrun, as it would be by any C function.
+ * enough, with short lines: 76 and 1,100 KiB for foqtirel_list, 132 and 1,160 KiB for foqtirel_trees, 196 and 1,224 KiB for
+ * foqtirel_query; and 275 bytes for each argument more on a line. For foqtirel_check, foqtirel_clash, foqtirel_file and
+ * foqtirel_unfile 16 KiB are enough, and glibc makes no thread with less. A smaller stack is overrun, as it would be by any C
+ * function.
  */
 #define FOQTIREL_STACK_MOST (4u * 1024u * 1024u)
 #define FOQTIREL_STACK_12_RULES (512u * 1024u)
@@ -109,7 +110,8 @@ struct foqtirel_node {
 
 /*
  * The refusals: the first cause that applies, in this order (4 to 10 for each rule in turn, 12 and 13 for each pair). The
- * first 14 are about the image and can come from every call; the others only from those that are named.
+ * first 14 are about the image and can come from every call, but for 14, which foqtirel_clash never gives: it is for such an
+ * image. The others come only from the calls that are named.
  */
 #define FOQTIREL_IMAGE_LENGTH 1u            /* image under 12 or over 1,836 bytes */
 #define FOQTIREL_HEADER 2u                  /* a count over its limit, or bytes 6 and 7 not zero */
@@ -132,6 +134,8 @@ struct foqtirel_node {
 #define FOQTIREL_OUTPUT_TABLE 24u           /* file, unfile: the byte table is shorter than the image */
 #define FOQTIREL_NUMBER_TABLE 25u           /* file, unfile: the number table has fewer entries than the image has rules */
 #define FOQTIREL_MISFILED 26u               /* unfile: a number out of range or used twice, or an image not in filed form */
+#define FOQTIREL_IMAGE_ACCEPTED 28u         /* clash: the image is accepted, so nothing clashes in it */
+#define FOQTIREL_MARK_TABLE 29u             /* clash: the byte table is shorter than the image's rule count */
 
 /*
  * A result of foqtirel_query taken apart. A refused result has code 0, so a refusal is never taken for an answer. A number
@@ -142,10 +146,11 @@ struct foqtirel_node {
 #define FOQTIREL_NODES(result) (FOQTIREL_32_BITS(result) & 65535u)
 
 /*
- * A result of foqtirel_check, foqtirel_file, foqtirel_unfile, foqtirel_list or foqtirel_trees taken apart: whether it is a
- * refusal; of a refusal its number and place; where it is none, of a filing or a way back the number of bytes, of a list
- * the number of arguments, of trees the answer's code and its number of nodes. Again a refused result has code 0. A number
- * of 32 bits, such as a result of foqtirel_query, does not compile here: that call has its refusals elsewhere.
+ * A result of foqtirel_check, foqtirel_clash, foqtirel_file, foqtirel_unfile, foqtirel_list or foqtirel_trees taken apart:
+ * whether it is a refusal; of a refusal its number and place; where it is none, of a clash the number of rules, of a filing
+ * or a way back the number of bytes, of a list the number of arguments, of trees the answer's code and its number of nodes.
+ * Again a refused result has code 0. A number of 32 bits, such as a result of foqtirel_query, does not compile here: that
+ * call has its refusals elsewhere.
  */
 #define FOQTIREL_REFUSED64(result) (FOQTIREL_64_BITS(result) >> 32 != 0u)
 #define FOQTIREL_NUMBER64(result) ((uint32_t)(FOQTIREL_64_BITS(result) >> 32))
@@ -161,7 +166,7 @@ struct foqtirel_node {
 #define FOQTIREL_64_BITS(result) ((uint64_t)(result) + 0u * sizeof(char[sizeof(result) == sizeof(uint64_t) ? 1 : -1]))
 
 /*
- * Of all six calls:
+ * Of all seven calls:
  *
  *   image, length   the image's bytes. They stay the caller's, are only read, and have to stay as they are during the call.
  *                   Any bytes will do: what isn't a sound image is refused. NULL with length 0 is an empty image, refused
@@ -188,6 +193,25 @@ struct foqtirel_node {
  * FOQTIREL_REFUSED64, FOQTIREL_NUMBER64 and FOQTIREL_PLACE64.
  */
 uint64_t foqtirel_check(const uint8_t *image, size_t length);
+
+/*
+ * Marks one small clash of an image that foqtirel_check refuses with FOQTIREL_STRICT_CONTRADICTION: facts and strict rules
+ * that contradict each other, and no longer do so if any single one of them is left out. Which clash it is depends on the
+ * order of the rules: it starts from all facts and strict rules and goes from the highest number down, leaving out each
+ * without which the rest stays contradictory, and marks what remains.
+ *
+ *   marks, room   the byte table. Its front gets one byte for each rule of the image: 1 for a rule of the clash, 0 for every
+ *                 other, the defeasible ones among them; the bytes past the rule count stay as they were. The rule count is
+ *                 image[2] + 256 * image[3]. If there are fewer bytes than rules, the call is refused with
+ *                 FOQTIREL_MARK_TABLE; FOQTIREL_MOST_RULES bytes are always enough.
+ *
+ * An image that foqtirel_check accepts has no clash and is refused with FOQTIREL_IMAGE_ACCEPTED, whatever room there is. The
+ * call is never refused with FOQTIREL_STRICT_CONTRADICTION: these two causes stand in its place. Once a rule of the clash is
+ * gone there may be another clash, which a further call marks.
+ *
+ * Returns the rule count, or a refusal as foqtirel_check does. See FOQTIREL_REFUSED64 and FOQTIREL_COUNT64.
+ */
+uint64_t foqtirel_clash(const uint8_t *image, size_t length, uint8_t *marks, size_t room);
 
 /*
  * Writes the filed form of an image: the same program with its rules and pairs in one order, whatever order they were typed

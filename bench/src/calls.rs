@@ -20,10 +20,13 @@ pub enum Call {
     Host,
     /// The C call for every literal of the image.
     Advise,
+    /// Of an image in which something clashes.
+    Clash,
 }
 
 impl Call {
-    pub const ALL: [Call; 7] = [
+    /// Those of a sound image.
+    pub const SOUND: [Call; 7] = [
         Call::Check,
         Call::File,
         Call::Unfile,
@@ -32,6 +35,11 @@ impl Call {
         Call::Host,
         Call::Advise,
     ];
+
+    pub fn named(name: &str) -> Option<Call> {
+        let mut all = Call::SOUND.into_iter().chain([Call::Clash]);
+        all.find(|call| call.name() == name)
+    }
 
     pub fn name(self) -> &'static str {
         match self {
@@ -42,6 +50,7 @@ impl Call {
             Call::Query => "query",
             Call::Host => "C call",
             Call::Advise => "advise",
+            Call::Clash => "clash",
         }
     }
 }
@@ -93,6 +102,7 @@ pub fn proved(call: Call, image: &[u8], literal: u32, lent: &mut Tables) -> u64 
         Call::Advise => sum(image, |literal| {
             library::query(image, literal, BUDGET).into()
         }),
+        Call::Clash => library::clash(image, &mut lent.numbers),
     }
 }
 
@@ -116,6 +126,7 @@ pub fn plain(call: Call, image: &[u8], literal: u32, lent: &mut Tables) -> u64 {
             Ok(analysis) => sum(image, |literal| analysis.host_call(literal, BUDGET).into()),
             Err(refusal) => sum(image, |_| number(refusal)),
         },
+        Call::Clash => length(reference::clash(image, &mut lent.numbers)),
     }
 }
 

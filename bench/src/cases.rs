@@ -6,6 +6,7 @@ use std::{env, fs};
 
 use crate::calls::Call;
 use crate::images::grown;
+use foqtirel_tests::generator::clash::{slow_clash, with_clash};
 use foqtirel_tests::generator::filing::{alike, turned};
 use foqtirel_tests::generator::{all_applicable, Description};
 use foqtirel_tests::vectors;
@@ -40,7 +41,7 @@ pub fn all() -> Vec<Case> {
             name,
             image,
             literal,
-            calls: &Call::ALL,
+            calls: &Call::SOUND,
         })
     };
     for (seed, rules, defeasible, literal) in [
@@ -66,6 +67,7 @@ pub fn all() -> Vec<Case> {
         add(name.into(), vectors::image(name), literal);
     }
     cases.extend(to_file());
+    cases.extend(to_clash());
     cases
 }
 
@@ -84,5 +86,24 @@ fn to_file() -> [Case; 3] {
         image,
         literal: 0,
         calls: &[Call::Check, Call::File, Call::Unfile],
+    })
+}
+
+/// Images in which something clashes: 65 rules that are all needed, among 96 and in the worst order; two facts behind as many
+/// other rules as there can be; and those behind a program of common size.
+fn to_clash() -> [Case; 3] {
+    [
+        ("clash of 65", slow_clash()),
+        ("clash of 2/96", with_clash(&alike())),
+        (
+            "clash of 2/42",
+            with_clash(&Description::of_image(&grown(2, 40, 10))),
+        ),
+    ]
+    .map(|(name, program)| Case {
+        name: name.into(),
+        image: program.image(),
+        literal: 0,
+        calls: &[Call::Clash],
     })
 }

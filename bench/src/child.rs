@@ -42,8 +42,7 @@ pub fn once(arguments: &[String]) {
     let image = fs::read(file).expect("the image");
     let literal = literal.parse().expect("a literal");
     let side = Side::ALL.into_iter().find(|s| s.name() == side);
-    let call = Call::ALL.into_iter().find(|c| c.name() == call);
-    let call = call.expect("a call");
+    let call = Call::named(call).expect("a call");
     let mut lent = Tables::for_call(call, &image);
     let result = match side.expect("a side") {
         Side::Proved => proved(call, &image, literal, &mut lent),

@@ -1,7 +1,7 @@
 //! The calls of `include/foqtirel.h` for Rust: safe functions over slices, and their results taken apart.
 //!
-//! Each function returns the number that the C call returns: 64 bits from `check`, `file`, `unfile`, `list` and `trees`,
-//! which [`granted`] and [`answered_with_trees`] take apart, and 32 bits from `query`, which are for [`answered`].
+//! Each function returns the number that the C call returns: 64 bits from `check`, `clash`, `file`, `unfile`, `list` and
+//! `trees`, which [`granted`] and [`answered_with_trees`] take apart, and 32 bits from `query`, which are for [`answered`].
 
 pub mod raw;
 
@@ -52,8 +52,8 @@ impl Answer {
     }
 }
 
-/// The number in a result of `check`, `file`, `unfile`, `list` or `trees`. A refusal has its own in the upper half, which is
-/// 0 otherwise.
+/// The number in a result of `check`, `clash`, `file`, `unfile`, `list` or `trees`. A refusal has its own in the upper half,
+/// which is 0 otherwise.
 pub fn granted(result: u64) -> Result<u32, Refusal> {
     match (result >> 32) as u32 {
         0 => Ok(result as u32),
@@ -81,6 +81,13 @@ pub fn answered(result: u32) -> Result<Answer, u32> {
 pub fn check(image: &[u8]) -> u64 {
     // SAFETY: the pointer and the length are the slice's own.
     unsafe { raw::foqtirel_check(image.as_ptr(), image.len()) }
+}
+
+/// The number of rules, or number × 2^32 + place. Each rule has a byte of `marks`: 1 for one of a small clash, else 0.
+pub fn clash(image: &[u8], marks: &mut [u8]) -> u64 {
+    let (table, room) = (marks.as_mut_ptr(), marks.len());
+    // SAFETY: the pointers and lengths are the slices' own.
+    unsafe { raw::foqtirel_clash(image.as_ptr(), image.len(), table, room) }
 }
 
 /// The length of the filed form, or number × 2^32 + place. The old number of each filed rule goes to `numbers`.
@@ -199,5 +206,21 @@ mod tests {
         assert_eq!(answered(query(&image, 0, 2)), Ok(answer));
         assert!(nodes[0].undefeated() && !nodes[1].undefeated());
         assert!(granted(check(&image[1..])).is_err());
+        assert_eq!(number(clash(&image, &mut [])), Err(28));
+    }
+
+    /// A fact, something else and the fact's complement.
+    #[test]
+    fn a_clash_is_marked() {
+        let image = [
+            2, 0, 3, 0, 0, 0, 0, 0, 24, 0, 2, 0, 26, 0, 2, 0, 28, 0, 2, 0, 30, 0, 0, 0, 0, 0, 0, 2,
+            0, 1,
+        ];
+        let mut marks = [7; 5];
+        assert_eq!(clash(&image, &mut marks[..2]), 29 << 32);
+        assert_eq!(marks, [7; 5]);
+        assert_eq!(granted(clash(&image, &mut marks)), Ok(3));
+        assert_eq!(marks, [1, 0, 1, 7, 7]);
+        assert_eq!(check(&image), 14 << 32);
     }
 }

@@ -16,6 +16,12 @@ extern "C" {
     /// See [the module](self).
     pub fn foqtirel_check(image: *const u8, length: usize) -> u64;
 
+    /// The number of rules, or number × 2^32 + place. So many bytes at the front of the table are written.
+    ///
+    /// # Safety
+    /// See [the module](self).
+    pub fn foqtirel_clash(image: *const u8, length: usize, marks: *mut u8, room: usize) -> u64;
+
     /// The length of the filed form, or number × 2^32 + place.
     ///
     /// # Safety

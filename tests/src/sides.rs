@@ -15,6 +15,8 @@ use crate::vectors;
 pub const OUTPUT_TABLE: u64 = 24 << 32;
 pub const NUMBER_TABLE: u64 = 25 << 32;
 pub const MISFILED: u64 = 26 << 32;
+pub const IMAGE_ACCEPTED: u64 = 28 << 32;
+pub const MARK_TABLE: u64 = 29 << 32;
 
 /// The lengths of two tables that are lent to one call.
 pub type Lengths = (usize, usize);
@@ -23,6 +25,7 @@ pub type Lengths = (usize, usize);
 pub struct Side {
     pub name: &'static str,
     pub check: fn(&[u8]) -> u64,
+    pub clash: fn(&[u8], &mut [u8]) -> u64,
     pub file: fn(&[u8], &mut [u8], &mut [u8]) -> u64,
     pub unfile: fn(&[u8], &[u8], &mut [u8]) -> u64,
     pub list: fn(&[u8], &mut [u32]) -> u64,
@@ -39,6 +42,7 @@ fn packed(result: Result<usize, Refusal>) -> u64 {
 pub const REFERENCE: Side = Side {
     name: "reference",
     check: |image| packed(reference::check(image).map(|()| 0)),
+    clash: |image, marks| packed(reference::clash(image, marks)),
     file: |image, out, numbers| packed(reference::file(image, out, numbers)),
     unfile: |image, numbers, out| packed(reference::unfile(image, numbers, out)),
     list: |image, arguments| packed(reference::list(image, arguments)),
@@ -55,6 +59,7 @@ pub const REFERENCE: Side = Side {
 const LIBRARY: Side = Side {
     name: "library",
     check: foqtirel_binding::check,
+    clash: foqtirel_binding::clash,
     file: foqtirel_binding::file,
     unfile: foqtirel_binding::unfile,
     list: foqtirel_binding::list,
@@ -100,6 +105,25 @@ pub fn old_numbers(image: &[u8], form: &[u8]) -> Vec<u8> {
     let numbers = parts(form).iter().map(number).collect::<Option<Vec<_>>>();
     let numbers = numbers.expect("the rules of the image");
     numbers.into_iter().map(|number| number as u8).collect()
+}
+
+/// Lends a call a byte table of so many bytes, and holds the result and the table to what is wanted: these bytes at its front
+/// and the rest as it was, or a refusal and all as it was.
+#[track_caller]
+fn assert_writes(
+    call: impl Fn(&mut [u8]) -> u64,
+    room: usize,
+    wanted: Result<&[u8], u64>,
+    about: impl Fn() -> String,
+) {
+    let result = wanted.map_or_else(|refusal| refusal, |front| front.len() as u64);
+    for turned in [false, true] {
+        let mut table = lent(room, turned);
+        let given = call(&mut table);
+        assert_eq!(given, result, "{}", about());
+        let left = written(room, turned, wanted.unwrap_or_default());
+        assert!(table == left, "the table is not as wanted: {}", about());
+    }
 }
 
 impl Side {
@@ -149,15 +173,17 @@ impl Side {
         room: usize,
         wanted: Result<&[u8], u64>,
     ) {
-        let result = wanted.map_or_else(|refusal| refusal, |typed| typed.len() as u64);
-        for turned in [false, true] {
-            let mut out = lent(room, turned);
-            let given = (self.unfile)(image, numbers, &mut out);
-            let about = || format!("{}: room {room}: {numbers:?} {image:02X?}", self.name);
-            assert_eq!(given, result, "{}", about());
-            let left = written(room, turned, wanted.unwrap_or_default());
-            assert!(out == left, "the table is not as wanted: {}", about());
-        }
+        let unfile = |out: &mut [u8]| (self.unfile)(image, numbers, out);
+        let about = || format!("{}: room {room}: {numbers:?} {image:02X?}", self.name);
+        assert_writes(unfile, room, wanted, about);
+    }
+
+    /// Marks a clash in a byte table of so many bytes, and holds the result and every byte to what is wanted.
+    #[track_caller]
+    pub fn assert_marks(&self, image: &[u8], room: usize, wanted: Result<&[u8], u64>) {
+        let clash = |marks: &mut [u8]| (self.clash)(image, marks);
+        let about = || format!("{}: room {room}: {image:02X?}", self.name);
+        assert_writes(clash, room, wanted, about);
     }
 
     /// A filed image in the order that sound numbers give.

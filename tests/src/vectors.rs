@@ -92,13 +92,20 @@ pub struct Unfiling {
     pub outcome: Result<Vec<u8>, Verdict>,
 }
 
+/// An image, the length of the byte table that is lent for it, and the marks of its clash or the refusal.
+pub struct Clash {
+    pub image: Vec<u8>,
+    pub room: usize,
+    pub outcome: Result<Vec<u8>, Verdict>,
+}
+
 /// The vectors of request C-12, which name no number table, with one that is always long enough.
 pub fn filings() -> Vec<Filing> {
     let filing = |(lent, outcome): &(String, String)| {
-        let (image, room) = lent.split_once(' ').expect("an image and a room");
+        let (image, room) = image_and_room(lent);
         Filing {
-            image: bytes(image),
-            rooms: (number(room), MOST_RULES),
+            image,
+            rooms: (room, MOST_RULES),
             outcome: filing_outcome(outcome),
         }
     };
@@ -124,6 +131,24 @@ pub fn unfilings() -> Vec<Unfiling> {
         outcome: image_outcome(&outcome),
     };
     of_call("back").into_iter().map(unfiling).collect()
+}
+
+/// The vectors of request C-20.
+pub fn clashes() -> Vec<Clash> {
+    let clash = |(lent, outcome): &(String, String)| {
+        let (image, room) = image_and_room(lent);
+        Clash {
+            image,
+            room,
+            outcome: marks_outcome(outcome),
+        }
+    };
+    lines_of("c20").iter().map(clash).collect()
+}
+
+fn image_and_room(lent: &str) -> (Vec<u8>, usize) {
+    let (image, room) = lent.split_once(' ').expect("an image and a room");
+    (bytes(image), number(room))
 }
 
 /// The lines of request C-16 for one of its calls: three words that it takes, and the text after the first bar.
@@ -154,6 +179,13 @@ fn filing_outcome(text: &str) -> Result<Filed, Verdict> {
 fn image_outcome(text: &str) -> Result<Vec<u8>, Verdict> {
     let (length, image) = granted(text)?;
     Ok(bytes_of_length(image, length))
+}
+
+fn marks_outcome(text: &str) -> Result<Vec<u8>, Verdict> {
+    let (rules, marks) = granted(text)?;
+    let marks: Vec<u8> = marks.split(' ').map(number).collect();
+    assert_eq!(marks.len(), rules, "{text}");
+    Ok(marks)
 }
 
 /// A length and what comes after it, or the refusal.
@@ -194,6 +226,7 @@ pub fn images() -> Vec<Vec<u8>> {
     let filings = filings().into_iter().chain(numbered_filings());
     images.extend(filings.map(|filing| filing.image));
     images.extend(unfilings().into_iter().map(|unfiling| unfiling.image));
+    images.extend(clashes().into_iter().map(|clash| clash.image));
     images
 }
 

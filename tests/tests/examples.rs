@@ -5,6 +5,7 @@ use std::path::{Path, PathBuf};
 use std::process::Command;
 
 use foqtirel_tests::compiler::{assert_success, c_compilation, run, shared_library};
+use foqtirel_tests::generator::Description;
 use foqtirel_tests::header::root;
 use foqtirel_tests::reference::tree::Forest;
 use foqtirel_tests::reference::{Analysis, Literal, NodeEntry, MOST_NODES};
@@ -279,6 +280,11 @@ fn python_tells_the_references_trees() {
     refused("F", &["128"], "refused 20 0");
     refused("F", &["2", "4097"], "refused 21 0");
     refused("args4097", &["2"], "refused 23 0");
+    let clashing = directory("python_forests").join("clashing");
+    let program = Description::parse("4; 0; d 1<4; 2<0; 3<0,4; 1").expect("a program");
+    std::fs::write(clashing.with_extension("img"), program.image()).expect("an image");
+    let name = clashing.to_str().expect("a name in UTF-8");
+    refused(name, &["2"], "refused 14 0: rules 0 1 3 4");
 }
 
 /// Where nothing is asked, or the image can't be read, or the answer not be written, nothing looks like an answer.

@@ -82,6 +82,7 @@ fn results_of_32_and_of_64_bits_do_not_pass_for_each_other() {
     };
     let wide = [
         "foqtirel_check(NULL, 0)",
+        "foqtirel_clash(NULL, 0, NULL, 0)",
         "foqtirel_file(NULL, 0, NULL, 0, NULL, 0)",
         "foqtirel_unfile(NULL, 0, NULL, 0, NULL, 0)",
         "foqtirel_list(NULL, 0, NULL, 0)",
@@ -104,8 +105,9 @@ fn results_of_32_and_of_64_bits_do_not_pass_for_each_other() {
 }
 
 /// The calls, in the order of their names.
-const CALLS: [&str; 6] = [
+const CALLS: [&str; 7] = [
     "foqtirel_check",
+    "foqtirel_clash",
     "foqtirel_file",
     "foqtirel_list",
     "foqtirel_query",

@@ -5,8 +5,8 @@ use std::ptr::{null, null_mut};
 use std::thread;
 
 use foqtirel_binding::{
-    answered, answered_with_trees, check, file, granted, list, query, raw, trees, unfile, Answer,
-    Node, Refusal,
+    answered, answered_with_trees, check, clash, file, granted, list, query, raw, trees, unfile,
+    Answer, Node, Refusal,
 };
 use foqtirel_tests::fittings::{F, FITTINGS};
 use foqtirel_tests::generator::late::late;
@@ -288,6 +288,15 @@ fn unfinished_zeroes_the_budget() {
     }
 }
 
+/// How the call for a clash refuses an image that others refuse so, where it has room for one mark: an image with a
+/// contradiction has two rules at least.
+fn of_clash(refused: Refusal) -> Refusal {
+    match refused.number {
+        14 => refusal(29, 0),
+        _ => refused,
+    }
+}
+
 /// Every cause of an image, in each call that reads one: the reference's number and place, and tables as they were.
 #[test]
 fn refused_images_leave_the_tables() {
@@ -302,6 +311,9 @@ fn refused_images_leave_the_tables() {
         let (mut out, mut numbers) = (bytes(image.len()), bytes(96));
         assert_eq!(file(&image, &mut out, &mut numbers), cause.packed());
         assert_eq!(unfile(&image, &numbers, &mut out), cause.packed());
+        let refused = granted(clash(&image, &mut numbers[..1]));
+        let wanted = refusal(cause.cause.number(), cause.place as u32);
+        assert_eq!(refused, Err(of_clash(wanted)));
         assert_eq!((out, numbers), (bytes(image.len()), bytes(96)));
         let (mut arguments, mut nodes) = tables(9, 9);
         assert_eq!(list(&image, &mut arguments), cause.packed());
@@ -321,6 +333,10 @@ fn assert_refused_by_every_call(case: &Case, lengths: (usize, usize)) {
     let image = &case.image;
     let wanted = Err(refusal(number, place));
     assert_eq!(granted(check(image)), wanted, "{case:02X?}");
+    let mut marks = bytes(1);
+    let clashing = granted(clash(image, &mut marks));
+    assert_eq!(clashing, wanted.map_err(of_clash), "{case:02X?}");
+    assert_eq!(marks, bytes(1), "marks touched: {case:02X?}");
     for (room, number_room) in [lengths, (image.len(), 96)] {
         let (mut out, mut numbers) = (bytes(room), bytes(number_room));
         let filed = granted(file(image, &mut out, &mut numbers));
@@ -431,6 +447,7 @@ fn no_bytes_are_an_image_of_length_zero() {
     // SAFETY: nothing is read from an image of no bytes, and the tables have as many entries as the calls are told.
     unsafe {
         assert_eq!(raw::foqtirel_check(null(), 0), refused);
+        assert_eq!(raw::foqtirel_clash(null(), 0, null_mut(), 0), refused);
         assert_eq!(raw::foqtirel_list(null(), 0, entries, 3), refused);
         assert_eq!(
             raw::foqtirel_trees(null(), 0, 2, 3, entries, 3, rows, 3),

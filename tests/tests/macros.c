@@ -18,12 +18,16 @@ static const uint8_t image[] = {2, 0, 3, 0, 1, 0, 0, 0, 24, 0, 2, 0, 26, 0, 3, 0
 /* The same with rules 1 and 2 in each other's places. */
 static const uint8_t turned[] = {2, 0, 3, 0, 1, 0, 0, 0, 24, 0, 2, 0, 26, 0, 3, 0, 29,
                                  0, 3, 0, 32, 0, 2, 0, 0, 0, 1, 3, 0, 1, 2, 0, 2, 1};
+/* 0, d 2<0, 1: the first and the last clash. */
+static const uint8_t clashing[] = {2, 0, 3, 0, 0, 0, 0, 0, 24, 0, 2, 0, 26, 0, 3, 0,
+                                   29, 0, 2, 0, 31, 0, 0, 0, 0, 0, 1, 2, 0, 0, 1};
 /* The program F with the kind of rule 2 out of range. */
 static uint8_t damaged[sizeof image];
 
 static uint8_t form[FOQTIREL_MOST_IMAGE];
 static uint8_t typed[FOQTIREL_MOST_IMAGE];
 static uint8_t numbers[FOQTIREL_MOST_RULES];
+static uint8_t marks[FOQTIREL_MOST_RULES];
 static uint32_t arguments[FOQTIREL_ARGUMENTS];
 static struct foqtirel_node nodes[FOQTIREL_MOST_NODES];
 static int asked;
@@ -63,6 +67,28 @@ static int results_of_check(void)
     result = foqtirel_check(NULL, 0);
     DEMAND(FOQTIREL_REFUSED64(result) && FOQTIREL_NUMBER64(result) == FOQTIREL_IMAGE_LENGTH);
     DEMAND(FOQTIREL_PLACE64(result) == 0u);
+    return 0;
+}
+
+static int results_of_clash(void)
+{
+    uint64_t result = foqtirel_clash(clashing, sizeof clashing, marks, 2);
+
+    DEMAND(FOQTIREL_REFUSED64(result) && FOQTIREL_NUMBER64(result) == FOQTIREL_MARK_TABLE);
+    DEMAND(FOQTIREL_PLACE64(result) == 0u && marks[0] == 0u);
+    marks[1] = 7;
+    marks[3] = 7;
+    result = foqtirel_clash(clashing, sizeof clashing, marks, sizeof marks);
+    DEMAND(!FOQTIREL_REFUSED64(result) && FOQTIREL_NUMBER64(result) == 0u && FOQTIREL_COUNT64(result) == 3u);
+    DEMAND(marks[0] == 1u && marks[1] == 0u && marks[2] == 1u && marks[3] == 7u);
+    result = foqtirel_check(clashing, sizeof clashing);
+    DEMAND(FOQTIREL_NUMBER64(result) == FOQTIREL_STRICT_CONTRADICTION);
+    result = foqtirel_clash(image, sizeof image, NULL, 0);
+    DEMAND(FOQTIREL_REFUSED64(result) && FOQTIREL_NUMBER64(result) == FOQTIREL_IMAGE_ACCEPTED);
+    DEMAND(FOQTIREL_PLACE64(result) == 0u);
+    result = foqtirel_clash(damaged, sizeof damaged, marks, sizeof marks);
+    DEMAND(FOQTIREL_REFUSED64(result) && FOQTIREL_NUMBER64(result) == FOQTIREL_RULE_KIND);
+    DEMAND(FOQTIREL_PLACE64(result) == 2u);
     return 0;
 }
 
@@ -225,6 +251,7 @@ int main(void)
     damaged[29] = 7;
     line = layout_of_a_node();
     line = line != 0 ? line : results_of_check();
+    line = line != 0 ? line : results_of_clash();
     line = line != 0 ? line : results_of_file();
     line = line != 0 ? line : results_of_unfile();
     line = line != 0 ? line : results_of_list();

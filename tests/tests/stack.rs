@@ -9,8 +9,9 @@ use std::thread;
 
 use foqtirel_binding::{self as library, Node};
 use foqtirel_tests::generator::accepted::small_programs;
+use foqtirel_tests::generator::clash::{clashing, slow_clash, with_clash};
 use foqtirel_tests::generator::filing::alike;
-use foqtirel_tests::generator::{accepted, all_applicable, many_arguments};
+use foqtirel_tests::generator::{accepted, all_applicable, many_arguments, Description};
 use foqtirel_tests::header::constants;
 use foqtirel_tests::reference::image::defeasible_rules;
 use foqtirel_tests::reference::{check, MOST_NODES};
@@ -35,8 +36,10 @@ fn images_up_to(most: usize) -> Vec<Vec<u8>> {
     let programs = accepted(3, 300).chain(small_programs(3, 100));
     let mut images = vectors::images();
     images.extend(programs.map(|case| case.image));
+    images.extend(clashing(3, 200).map(|(_, program)| program.image()));
     images.extend((0..=16).map(|rules| all_applicable(rules).image()));
-    images.extend([many_arguments(), alike()].map(|program| program.image()));
+    let programs = [many_arguments(), alike(), slow_clash()];
+    images.extend(programs.map(|program| program.image()));
     images.retain(|image| defeasible_rules(image) <= most);
     images
 }
@@ -44,6 +47,7 @@ fn images_up_to(most: usize) -> Vec<Vec<u8>> {
 #[derive(Clone, Copy, PartialEq)]
 enum Call {
     Check,
+    Clash,
     File,
     Unfile,
     List,
@@ -52,8 +56,9 @@ enum Call {
 }
 
 impl Call {
-    const ALL: [Call; 6] = [
+    const ALL: [Call; 7] = [
         Call::Check,
+        Call::Clash,
         Call::File,
         Call::Unfile,
         Call::List,
@@ -64,6 +69,7 @@ impl Call {
     fn name(self) -> &'static str {
         match self {
             Call::Check => "check",
+            Call::Clash => "clash",
             Call::File => "file",
             Call::Unfile => "unfile",
             Call::List => "list",
@@ -92,10 +98,14 @@ struct Question {
     literals: Vec<u32>,
 }
 
-/// The way back is asked about the filed form.
+/// The way back is asked about the filed form, and what clashes about a program in which something does.
 fn question(call: Call, image: Vec<u8>, literals: Vec<u32>) -> Question {
     let (image, numbers) = match call {
         Call::Unfile if check(&image).is_ok() => REFERENCE.filed(&image),
+        Call::Clash if check(&image).is_ok() => {
+            let clashing = with_clash(&Description::of_image(&image));
+            (clashing.image(), Vec::new())
+        }
         _ => (image, Vec::new()),
     };
     Question {
@@ -167,6 +177,7 @@ fn carry_out(order: &Order, tables: &mut Tables) -> usize {
         for &literal in &question.literals {
             let refused = match order.call {
                 Call::Check => library::check(image) >> 32 != 0,
+                Call::Clash => library::clash(image, entries) >> 32 != 0,
                 Call::File => library::file(image, bytes, entries) >> 32 != 0,
                 Call::Unfile => library::unfile(image, numbers, bytes) >> 32 != 0,
                 Call::List => library::list(image, arguments) >> 32 != 0,
@@ -241,6 +252,7 @@ fn every_call_ends_on_the_stack_of_the_header() {
     let header = constants();
     for (figure, most, what) in [
         ("STACK_CHECK", 16, "check upto=16"),
+        ("STACK_CHECK", 16, "clash upto=16"),
         ("STACK_FILE", 16, "file upto=16"),
         ("STACK_FILE", 16, "unfile upto=16"),
         ("STACK_LIST_12", 128, "list upto=12"),

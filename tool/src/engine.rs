@@ -13,6 +13,8 @@ pub const MOST_RULES: usize = 96;
 
 /// The refusal of a program whose facts and strict rules contradict each other.
 pub const CONTRADICTION: u32 = 14;
+/// What it means.
+pub const CONTRADICTORY: &str = "the facts and strict rules contradict each other";
 /// The refusals of the way back from filed form: too few numbers, and numbers or an image that are not right.
 pub const NUMBER_TABLE: u32 = 25;
 pub const MISFILED: u32 = 26;
@@ -60,7 +62,7 @@ pub fn meaning(refusal: &Refusal) -> &'static str {
         11 => "the last part does not hold the pairs",
         12 => "a pair is not of two defeasible rules",
         13 => "the pairs do not ascend",
-        CONTRADICTION => "the facts and strict rules contradict each other",
+        CONTRADICTION => CONTRADICTORY,
         20 => "a literal is below 128",
         21 => "a budget is at most 4,096",
         22 => "the node table is shorter than the budget",
@@ -68,6 +70,8 @@ pub fn meaning(refusal: &Refusal) -> &'static str {
         24 => "the byte table is shorter than the image",
         NUMBER_TABLE => "there are fewer numbers than rules",
         MISFILED => "this is not what `file` writes",
+        28 => "the image is accepted, so nothing clashes in it",
+        29 => "the byte table is shorter than the rule count",
         _ => "a cause that this tool does not know",
     }
 }
@@ -113,6 +117,14 @@ pub struct Verdict {
 
 pub fn check(image: &[u8]) -> Result<(), Refusal> {
     granted(foqtirel_binding::check(image)).map(|_| ())
+}
+
+/// The numbers of a few rules that contradict each other, in an image that is refused for a contradiction.
+pub fn clash(image: &[u8]) -> Result<Vec<usize>, Refusal> {
+    let mut marks = [0; MOST_RULES];
+    let rules = granted(foqtirel_binding::clash(image, &mut marks))?;
+    let marked = (0..rules as usize).filter(|&rule| marks[rule] == 1);
+    Ok(marked.collect())
 }
 
 /// An image in filed form, with the number that each of its rules had before.

@@ -34,6 +34,8 @@ pub struct Flaw {
     pub at: Span,
     pub what: String,
     pub help: String,
+    /// The rules that are wrong together, each with its place. Where there are any, they are shown instead of a line.
+    pub rules: Vec<(Span, String)>,
 }
 
 impl Flaw {
@@ -42,21 +44,51 @@ impl Flaw {
             at,
             what: what.into(),
             help: help.into(),
+            rules: Vec::new(),
         }
     }
 
-    /// The flaw with its source line and a caret below it.
+    /// A flaw of some rules together, placed at the last of them.
+    pub fn with_rules(what: String, rules: Vec<(Span, String)>, help: String) -> Flaw {
+        let (at, _) = *rules.last().expect("a rule");
+        Flaw {
+            rules,
+            ..Flaw::new(at, what, help)
+        }
+    }
+
+    /// The flaw with its rules, or else with its source line and a caret below it.
     pub fn render(&self, name: &str, text: &str) -> String {
-        let Span { line, column, .. } = self.at;
-        let (shown, below) = echo(text.lines().nth(line - 1).unwrap_or(""), self.at);
-        let margin = " ".repeat(line.to_string().len());
+        let shown = match self.rules.is_empty() {
+            true => self.line_shown(text),
+            false => self.rules_shown(name),
+        };
         format!(
-            "{}:{line}:{column}: error: {}\n {line} | {shown}\n {margin} | {below}\n help: {}\n",
-            plain(name),
+            "{}: error: {}\n{shown} help: {}\n",
+            place(name, self.at),
             self.what,
             self.help
         )
     }
+
+    fn line_shown(&self, text: &str) -> String {
+        let line = self.at.line;
+        let (shown, below) = echo(text.lines().nth(line - 1).unwrap_or(""), self.at);
+        let margin = " ".repeat(line.to_string().len());
+        format!(" {line} | {shown}\n {margin} | {below}\n")
+    }
+
+    fn rules_shown(&self, name: &str) -> String {
+        let rules = self.rules.iter();
+        rules
+            .map(|(at, rule)| format!(" {}: {rule}\n", place(name, *at)))
+            .collect()
+    }
+}
+
+/// A place in a file, as messages name it.
+pub fn place(file: &str, Span { line, column, .. }: Span) -> String {
+    format!("{}:{line}:{column}", plain(file))
 }
 
 /// So many columns of a line are shown, and so many of them before the place.

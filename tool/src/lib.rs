@@ -1,9 +1,11 @@
 //! The command-line tool over the proved engine: programs as text, answers with their trees.
 //!
-//! The answers, arguments, trees and marks, and the images that are filed or put back in order, are the engine's. What this
-//! crate adds is the way in (text to image) and the way out (names, words and pictures), which is tested, not proved.
+//! The answers, arguments, trees and marks, the rules that clash, and the images that are filed or put back in order, are the
+//! engine's. What this crate adds is the way in (text to image) and the way out (names, words and pictures), which is tested,
+//! not proved.
 
 pub mod asked;
+pub mod clash;
 pub mod command;
 pub mod compile;
 pub mod engine;

@@ -6,13 +6,14 @@ use std::os::unix::fs::MetadataExt;
 use std::path::Path;
 use std::string::FromUtf8Error;
 
+use crate::clash::Clash;
 use crate::compile::compile;
 use crate::engine::{self, Refusal, CONTRADICTION};
 use crate::fault::{plain, Fault, Flaw, Span};
 use crate::notes::notes;
 use crate::program::Program;
 use crate::source::Source;
-use crate::{image, reason, text};
+use crate::{image, text};
 
 /// The longest image; the engine refuses a longer one.
 const MOST_IMAGE: u64 = 1836;
@@ -100,30 +101,16 @@ pub fn read_text(path: &str, sort: &Sort) -> Result<String, Fault> {
     String::from_utf8(bytes).map_err(|error| not_text(name_of(path), error, sort.help))
 }
 
-/// The image and the program of a text, and the text as it was read. A contradiction is told here, where the lines are
-/// known.
+/// The image and the program of a text, and the text as it was read. A contradiction is told here, where the places of the
+/// rules are known.
 pub fn load_text(text: &str) -> Result<(Vec<u8>, Program, Source), Flaw> {
     let source = text::read(text)?;
     let program = compile(&source)?;
     let image = image::encode(&program);
-    let contradictory = engine::check(&image).is_err_and(|refusal| refusal.number == CONTRADICTION);
-    match reason::clash(&program).filter(|_| contradictory) {
-        Some((rule, earlier)) => Err(clash_flaw(&source, rule, earlier)),
+    match Clash::find(&image, &program) {
+        Some(clash) => Err(clash.flaw(&program, &source)),
         None => Ok((image, program, source)),
     }
-}
-
-fn clash_flaw(source: &Source, rule: usize, earlier: usize) -> Flaw {
-    let [here, there] = [rule, earlier].map(|number| &source.rules[number].head);
-    let what = format!(
-        "the facts and strict rules derive `{}` here and `{}` on line {}",
-        here.text(),
-        there.text(),
-        there.at.line
-    );
-    let help =
-        "together they may not contradict each other: write one of them with `-<`, or take one out";
-    Flaw::new(here.at, what, help)
 }
 
 /// An image, decoded only once the engine has found it sound but for a contradiction.
@@ -152,19 +139,15 @@ pub fn load_image(path: &str) -> Result<Loaded, Fault> {
             source: None,
             name: name.to_string(),
         }),
-        Some(refusal) => Err(Fault::Refused(refusal, plain(name), told_clash(&program))),
+        Some(refusal) => {
+            let told = Clash::find(&image, &program).map(|clash| clash.told(&program));
+            Err(Fault::Refused(
+                refusal,
+                plain(name),
+                told.unwrap_or_default(),
+            ))
+        }
     }
-}
-
-fn told_clash(program: &Program) -> String {
-    let Some((rule, earlier)) = reason::clash(program) else {
-        return String::new();
-    };
-    let derived = [rule, earlier].map(|number| program.literal(program.rules[number].head));
-    format!(
-        ": they derive {} (rule {rule}) and {} (rule {earlier})",
-        derived[0], derived[1]
-    )
 }
 
 /// For a text where an image should be: what to do with it.

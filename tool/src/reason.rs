@@ -113,34 +113,3 @@ impl<'a> Reasons<'a> {
         }
     }
 }
-
-/// Where the facts and strict rules contradict each other: the rule that completes a contradiction when they are
-/// followed front to back, and the one that derived the complement of its head before.
-pub fn clash(program: &Program) -> Option<(usize, usize)> {
-    let mut derived_by: HashMap<u8, usize> = HashMap::new();
-    loop {
-        let before = derived_by.len();
-        for (number, rule) in program
-            .rules
-            .iter()
-            .enumerate()
-            .filter(|(_, rule)| !rule.defeasible)
-        {
-            if derived_by.contains_key(&rule.head)
-                || !rule
-                    .body
-                    .iter()
-                    .all(|literal| derived_by.contains_key(literal))
-            {
-                continue;
-            }
-            if let Some(&earlier) = derived_by.get(&(rule.head ^ 1)) {
-                return Some((number, earlier));
-            }
-            derived_by.insert(rule.head, number);
-        }
-        if derived_by.len() == before {
-            return None;
-        }
-    }
-}

@@ -2,7 +2,7 @@
 
 use crate::engine;
 use crate::explain::count;
-use crate::fault::{plain, Fault, Span};
+use crate::fault::{place, plain, Fault, Span};
 use crate::filing::{by_name, filed};
 use crate::image::encode;
 use crate::load::Loaded;
@@ -192,8 +192,8 @@ fn atoms_told(sides: &[Side; 2]) -> Vec<String> {
 }
 
 impl Side<'_> {
-    fn place(&self, Span { line, column, .. }: Span) -> String {
-        format!("{}:{line}:{column}", plain(&self.loaded.name))
+    fn place(&self, at: Span) -> String {
+        place(&self.loaded.name, at)
     }
 
     /// A rule of a text as it was typed, one of an image with its number.

@@ -94,9 +94,9 @@ const COMPILING: &[Case] = &[
     ("r: b -< a.\ns: c <- a. r > s.", 2, 16, "`s` is a strict rule", "write the rule with `-<`"),
     ("r: b -< a.\nr > r.", 2, 5, "`r` is preferred over itself", "two different rules"),
     ("r: b -< a. s: c -< a.\nr > s.\ns > r.\n r > s.", 4, 2, "this preference stands on line 2 already", "take one"),
-    ("a.\nb <- a.\n~b.", 3, 1, "derive `~b` here and `b` on line 2", "write one of them with `-<`"),
-    ("b <- a.\n~b.\na.", 1, 1, "derive `b` here and `~b` on line 2", "write one of them with `-<`"),
-    ("a.\nb <- a.\nc <- b.\n~b <- c.", 4, 1, "derive `~b` here and `b` on line 2", "take one out"),
+    ("a.\nb <- a.\n~b.", 3, 1, "these 3 derive `b` and `~b`", "turn `<-` into `-<` in one"),
+    ("b <- a.\n~b.\na.", 3, 1, "these 3 derive `b` and `~b`", "turn `<-` into `-<` in one"),
+    ("a.\nb <- a.\nc <- b.\n~b <- c.", 4, 1, "these 4 derive `b` and `~b`", "take one of them out"),
 ];
 
 fn check(text: &str, line: usize, column: usize, what: &str, help: &str) {
@@ -311,27 +311,6 @@ fn bytes_that_are_no_text() {
         "{}",
         ran.err
     );
-}
-
-#[test]
-fn a_contradictory_image_is_told_with_its_literals() {
-    let path = common::scratch("errors").join("clash.img");
-    // a0. ~a0.
-    std::fs::write(
-        &path,
-        [
-            1, 0, 2, 0, 0, 0, 0, 0, 20, 0, 2, 0, 22, 0, 2, 0, 24, 0, 0, 0, 0, 0, 0, 1,
-        ],
-    )
-    .unwrap();
-    for command in ["advise", "show"] {
-        let ran = common::run(&[command, path.to_str().unwrap()]);
-        let told = format!(
-            "refused 14 0: {}: the facts and strict rules contradict each other: they derive ~a0 (rule 1) and a0 (rule 0)\n",
-            path.display()
-        );
-        assert_eq!((ran.status, ran.out.as_str(), ran.err), (1, "", told));
-    }
 }
 
 #[test]

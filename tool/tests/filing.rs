@@ -272,7 +272,7 @@ fn file_refuses_what_compile_refuses() {
     let flawed = write("flawed.delp", "a b.\n");
     let broken = write("broken.img", [0; 12]);
     for (file, status, told) in [
-        (contradictory.as_str(), 1, "derive `~a` here"),
+        (contradictory.as_str(), 1, "these 2 derive `a` and `~a`"),
         (&flawed, 1, "found `b`"),
         (&broken, 1, "refused 3 0: "),
         ("../tests/vectors/over1837.img", 1, "refused 1 0: "),

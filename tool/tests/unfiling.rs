@@ -342,7 +342,7 @@ fn images_are_refused_as_by_other_commands() {
         (
             &contradictory,
             1,
-            ": they derive ~a0 (rule 1) and a0 (rule 0)",
+            ": these 2 derive a0 and ~a0\n rule 0: a0.\n rule 1: ~a0.\n",
         ),
         ("shop.delp", 1, "this is a text; an image is needed here"),
         ("none.img", 2, "cannot read "),

@@ -327,6 +327,13 @@ module _ (s : List ℕ) where
   of-image n p (causes.of-pair h c) = inl (inr (inr (inr (inr (inr (omega arith, omega arith, c))))))
   of-image n p (causes.contradictory c) = inr (refl, refl, c)
 
+  -- reading looks for 1 to 13 alone
+  pub reading-judged : Judged (λ n p. (n < 14) × ImageCause s n p) (verdict s)
+  reading-judged = judged-same (λ n p c. (let k = read-span n p c .1 in omega arith, image-of n p (inl c))) back read-judged
+    where
+      back : (n p : ℕ) → (n < 14) × ImageCause s n p → Read n p
+      back n p (h, c) = ⊎-elim (λ r. r) (λ (a, b, x). absurd (omega arith)) (of-image n p c)
+
   pub check-judged : Judged (ImageCause s) (checkImage s)
   unfolding checkImage
   check-judged =

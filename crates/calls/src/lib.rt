@@ -33,6 +33,10 @@ impl Written {
     pub const NUMBER_TABLE: u32 = 25;
 
     pub const MISFILED: u32 = 26;
+
+    pub const IMAGE_ACCEPTED: u32 = 28;
+
+    pub const MARK_TABLE: u32 = 29;
 }
 
 // The first of causes 1 to 14 that applies to an image.

@@ -2,6 +2,7 @@
 ghost use mathlib.Core.Path.{_≡_};
 ghost use lib.ListN.{length};
 ghost use Rattle.calls.specs.Calls.{checkCall, listCall, listTable, treesCall, queryArguments, queryNodes, hostCall};
+ghost use Rattle.clash.specs.Calls.{clashCall, clashTable};
 ghost use Rattle.filing.specs.Calls.{fileCall, fileTable, fileNumbers, unfileCall, unfileTable};
 use nodes::Node;
 
@@ -11,6 +12,14 @@ pub extern "C" fn foqtirel_check(image: &[u8]) -> u64
     ensures { λ r. ⌜ r ≡ checkCall (now (image .entry)) ⌝ }
 {
     packing::verdict(warrant::check(image))
+}
+
+// The rule count of an image that is refused with 14, or number * 2^32 + place of the cause; and the lent table.
+#[no_mangle]
+pub extern "C" fn foqtirel_clash(image: &[u8], marks: &mut [u8]) -> u64
+    ensures { λ r. ⌜ (r ≡ clashCall (now (image .entry)) (length (now (marks .entry)))) × (now (marks .exit) ≡ clashTable (now (image .entry)) (now (marks .entry))) ⌝ }
+{
+    packing::written(clash::clash(image, marks))
 }
 
 // The number of arguments, or number * 2^32 + place of the cause; and the lent table.

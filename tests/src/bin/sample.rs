@@ -1,4 +1,4 @@
-//! A sample of calls to run under a memory checker: every vector, sound programs, damaged images.
+//! A sample of calls to run under a memory checker: every vector, sound programs, contradictory ones, damaged images.
 //!
 //! The image and the tables are allocations of exactly the length that the call is told, and the
 //! tables are not written before. So a step outside them shows, and so does an answer that depends
@@ -7,9 +7,12 @@
 
 use std::process::ExitCode;
 
-use foqtirel_binding::raw::{foqtirel_file, foqtirel_list, foqtirel_trees, foqtirel_unfile};
+use foqtirel_binding::raw::{
+    foqtirel_clash, foqtirel_file, foqtirel_list, foqtirel_trees, foqtirel_unfile,
+};
 use foqtirel_binding::{answered, answered_with_trees, check, granted, query, Node};
 use foqtirel_tests::generator::accepted::small_programs;
+use foqtirel_tests::generator::clash::clashing;
 use foqtirel_tests::generator::filing::alike;
 use foqtirel_tests::generator::late::late;
 use foqtirel_tests::generator::lengths::{cut_and_continued, greatest};
@@ -79,8 +82,13 @@ fn run(counts: &mut Counts) {
         let image: Box<[u8]> = case.image.into();
         counts.result(granted(check(&image)).is_ok());
         let rules = rule_count(&image);
+        clash(&image, 0, counts);
         file(&image, (image.len(), rules), counts);
         unfile(&image, &vec![0; rules], 0, image.len(), counts);
+    }
+    for (turn, (_, program)) in clashing(SEED, 180).enumerate() {
+        let image: Box<[u8]> = program.image().into();
+        clash(&image, turn % 3, counts);
     }
     for longest in [greatest(), alike()] {
         there_and_back(&longest.image(), 0, counts);
@@ -91,6 +99,7 @@ fn run(counts: &mut Counts) {
 fn ask(image: &[u8], literal: u32, budget: u32, more: usize, counts: &mut Counts) {
     let image: Box<[u8]> = image.into();
     counts.result(granted(check(&image)).is_ok());
+    clash(&image, more, counts);
     there_and_back(&image, more, counts);
     counts.result(answered(query(&image, literal, budget)).is_ok());
     let count = list(&image, MOST_ARGUMENTS, counts).unwrap_or(more);
@@ -108,6 +117,24 @@ fn ask(image: &[u8], literal: u32, budget: u32, more: usize, counts: &mut Counts
 /// The number of rules that an image says it has.
 fn rule_count(image: &[u8]) -> usize {
     image.get(2).copied().unwrap_or(0).into()
+}
+
+/// What clashes, with so many bytes more than are needed and with one too few.
+fn clash(image: &[u8], more: usize, counts: &mut Counts) {
+    let rules = rule_count(image);
+    for room in [rules.saturating_sub(1), rules + more] {
+        let mut marks: Vec<u8> = Vec::with_capacity(room);
+        // SAFETY: pointers and lengths are those of the allocations, and the call has written as many bytes as it says.
+        let given = unsafe {
+            let table = marks.as_mut_ptr();
+            let given = granted(foqtirel_clash(image.as_ptr(), image.len(), table, room));
+            marks.set_len(room.min(given.unwrap_or(0) as usize));
+            given
+        };
+        counts.result(given.is_ok());
+        counts.entries += marks.len();
+        counts.odd += marks.iter().filter(|&&mark| mark > 1).count();
+    }
 }
 
 /// Filed and back again, with so many entries more than are needed; with each table too short by an entry; and with faulty

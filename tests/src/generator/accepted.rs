@@ -409,7 +409,11 @@ fn finish(
     case(name, atoms, rules, pairs, expected)
 }
 
-fn random_pairs(random: &mut Random, rules: &[RuleText], percent: usize) -> Vec<(u8, u8)> {
+pub(super) fn random_pairs(
+    random: &mut Random,
+    rules: &[RuleText],
+    percent: usize,
+) -> Vec<(u8, u8)> {
     let numbers: Vec<u8> = (0..rules.len())
         .filter(|&number| rules[number].defeasible)
         .map(|number| number as u8)

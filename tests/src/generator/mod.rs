@@ -3,6 +3,7 @@
 pub mod accepted;
 pub mod chained;
 pub mod changes;
+pub mod clash;
 pub mod damage;
 pub mod description;
 pub mod filing;

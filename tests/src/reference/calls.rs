@@ -1,6 +1,7 @@
 //! The public calls with their results and their effect on the lent tables.
 
 use super::analysis::Analysis;
+use super::clash::small_clash;
 use super::derivation::contradictory;
 use super::filing::{filed, old_numbers, unfiled, write_image};
 use super::image::read_image;
@@ -64,6 +65,22 @@ pub fn accepted(image: &[u8]) -> Result<Program, Refusal> {
         return Err(Refusal::whole(Cause::StrictContradiction));
     }
     Ok(program)
+}
+
+/// Marks one small clash of an image with cause 14 at the front of a lent byte table, 1 for each rule of it and 0 for each
+/// other; returns the number of rules.
+pub fn clash(image: &[u8], marks: &mut [u8]) -> Result<usize, Refusal> {
+    let program = read_image(image)?;
+    if !contradictory(&program.strict_rules(), &[]) {
+        return Err(Refusal::whole(Cause::ImageAccepted));
+    }
+    let rules = program.rules.len();
+    if marks.len() < rules {
+        return Err(Refusal::whole(Cause::MarkTable));
+    }
+    let clash = small_clash(&program);
+    let marked: Vec<u8> = (0..rules).map(|n| clash.contains(&n).into()).collect();
+    Ok(write_front(marks, &marked))
 }
 
 /// Writes the filed form of an image to the front of a lent byte table, and the old number of each filed rule to the front

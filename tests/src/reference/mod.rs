@@ -6,6 +6,7 @@ pub mod analysis;
 pub mod argument;
 pub mod attack;
 pub mod calls;
+pub mod clash;
 pub mod derivation;
 pub mod filing;
 pub mod image;
@@ -19,7 +20,7 @@ pub use advise::advise;
 pub use analysis::Analysis;
 pub use argument::Argument;
 pub use calls::{
-    check, file, host_call, host_number, list, query, unfile, Answer, Code, MOST_NODES,
+    check, clash, file, host_call, host_number, list, query, unfile, Answer, Code, MOST_NODES,
 };
 pub use image::read_image;
 pub use literal::Literal;

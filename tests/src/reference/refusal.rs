@@ -24,11 +24,13 @@ pub enum Cause {
     OutputTable = 24,
     NumberTable = 25,
     Misfiled = 26,
+    ImageAccepted = 28,
+    MarkTable = 29,
 }
 
 impl Cause {
     /// All causes in the order of their numbers.
-    pub const ALL: [Cause; 21] = [
+    pub const ALL: [Cause; 23] = [
         Cause::ImageLength,
         Cause::Header,
         Cause::Directory,
@@ -50,6 +52,8 @@ impl Cause {
         Cause::OutputTable,
         Cause::NumberTable,
         Cause::Misfiled,
+        Cause::ImageAccepted,
+        Cause::MarkTable,
     ];
 
     pub fn number(self) -> u32 {

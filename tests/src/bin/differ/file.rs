@@ -11,7 +11,8 @@ use foqtirel_tests::lent;
 use foqtirel_tests::reference::{self, MOST_NODES};
 use foqtirel_tests::vectors;
 
-use crate::filereport::{result_of, FileReport};
+use crate::filereport::FileReport;
+use crate::results::{differed, result_of};
 use crate::unfile;
 
 const MIXED: usize = 4_000;
@@ -109,7 +110,14 @@ fn compare_call(
         });
     }
     let about = format!("tables of {room} and {number_room} bytes");
-    report.differed("filing", image, (wanted, given), (about, &places));
+    let results = (wanted, given);
+    differed(
+        &mut report.faults,
+        "filing",
+        image,
+        results,
+        (about, &places),
+    );
     None
 }
 

@@ -1,58 +1,19 @@
 //! Counting and the summary of the comparison of filing and of the way back.
 
 use std::collections::BTreeMap;
-use std::fmt::Display;
 
 use foqtirel_binding::{self as library, Answer};
 use foqtirel_tests::generator::filing::CHANGES;
-use foqtirel_tests::reference::Refusal;
 
 use crate::report::Faults;
+use crate::results::{demand_each, Results, Wanted};
 
 const LEAST_FILED: usize = 40_000;
 const LEAST_BACK: usize = 20_000;
-const LEAST_PER_CAUSE: usize = 100;
 /// So many other orders must have the same form, and so many forms go back and there again.
 const LEAST_ORDERS: usize = 10_000;
 const LEAST_PER_CHANGE: usize = 20;
 const LEAST_PER_RESULT: usize = 100;
-
-/// The results of one call.
-#[derive(Default)]
-pub struct Results {
-    images: usize,
-    longest: usize,
-    by_cause: BTreeMap<u32, usize>,
-}
-
-impl Results {
-    pub fn agreed(&mut self, result: Result<usize, Refusal>) {
-        match result {
-            Ok(length) => {
-                self.images += 1;
-                self.longest = self.longest.max(length);
-            }
-            Err(refusal) => *self.by_cause.entry(refusal.cause.number()).or_default() += 1,
-        }
-    }
-
-    /// Prints the counts and demands enough images, the longest among them, and enough of each cause.
-    fn finish(&self, call: &str, (last_cause, least): (u32, usize), faults: &mut Faults) {
-        let (images, longest) = (self.images, self.longest);
-        println!("{call}: {images} images written, the longest of {longest} bytes");
-        println!("{call}: refusals: {:?}", self.by_cause);
-        faults.demand(&format!("{call}: enough images"), images >= least);
-        faults.demand(&format!("{call}: the longest image"), longest == 1836);
-        let causes = (1..=14).chain(24..=last_cause);
-        let what = format!("{call}: cause");
-        demand_each(faults, &what, causes, &self.by_cause, LEAST_PER_CAUSE);
-    }
-}
-
-/// What the call for C returns for a result of the reference.
-pub fn result_of(result: Result<usize, Refusal>) -> u64 {
-    result.map_or_else(Refusal::packed, |length| length as u64)
-}
 
 #[derive(Default)]
 pub struct FileReport {
@@ -68,26 +29,6 @@ pub struct FileReport {
 }
 
 impl FileReport {
-    /// Both sides' results, the tables they were lent, and where these differ.
-    pub fn differed(
-        &mut self,
-        call: &str,
-        image: &[u8],
-        (wanted, given): (Result<usize, Refusal>, u64),
-        (about, places): (String, &[Option<isize>]),
-    ) {
-        let library = format!("{} * 2^32 + {}", given >> 32, given as u32);
-        self.faults.differed(
-            image,
-            &[
-                (call, about),
-                ("reference", format!("{wanted:?}")),
-                ("library", library),
-                ("first differing byte of each table", format!("{places:?}")),
-            ],
-        );
-    }
-
     pub fn order(&mut self, image: &[u8], same: bool) {
         self.orders += 1;
         if !same {
@@ -131,8 +72,18 @@ impl FileReport {
     /// Prints the summary; true if nothing differed and enough was seen.
     pub fn finish(mut self) -> bool {
         let faults = &mut self.faults;
-        self.filing.finish("file", (25, LEAST_FILED), faults);
-        self.unfiling.finish("unfile", (26, LEAST_BACK), faults);
+        for (call, results, last_cause, written) in [
+            ("file", &self.filing, 25, LEAST_FILED),
+            ("unfile", &self.unfiling, 26, LEAST_BACK),
+        ] {
+            let causes: Vec<u32> = (1..=14).chain(24..=last_cause).collect();
+            let wanted = Wanted {
+                causes: &causes,
+                written,
+                longest: 1836,
+            };
+            results.finish(call, wanted, faults);
+        }
         let (orders, ways_back) = (self.orders, self.ways_back);
         println!("file: {orders} other orders; {ways_back} ways back, or back and there");
         println!("file: changes: {:?}", self.by_change);
@@ -165,19 +116,5 @@ impl FileReport {
             LEAST_PER_RESULT,
         );
         faults.finish("file")
-    }
-}
-
-/// Demands that each of some keys was seen so often.
-fn demand_each<Key: Ord + Display>(
-    faults: &mut Faults,
-    what: &str,
-    keys: impl Iterator<Item = Key>,
-    counts: &BTreeMap<Key, usize>,
-    least: usize,
-) {
-    for key in keys {
-        let seen = counts.get(&key).copied().unwrap_or(0);
-        faults.demand(&format!("{what} {key} seen {seen} times"), seen >= least);
     }
 }

@@ -1,9 +1,10 @@
 //! Runs the proved library against the reference and against what is known from construction.
 //!
 //! `differ [seed] [damaged images] [accepted images]`; the two counts are those of the check, which takes all that are made by
-//! rule besides. `--query` compares queries alone, `--file` filing and the way back alone.
+//! rule besides. `--query` compares queries alone, `--file` filing and the way back alone, `--clash` clashes alone.
 
 mod check;
+mod clash;
 mod file;
 mod filereport;
 mod granted;
@@ -13,6 +14,7 @@ mod listreport;
 mod query;
 mod queryreport;
 mod report;
+mod results;
 mod unfile;
 
 use std::process::ExitCode;
@@ -28,9 +30,10 @@ fn main() -> ExitCode {
         match word.parse() {
             _ if word == "--query" => alone = Some("query"),
             _ if word == "--file" => alone = Some("file"),
+            _ if word == "--clash" => alone = Some("clash"),
             Ok(number) => numbers.push(number),
             Err(_) => {
-                eprintln!("usage: differ [--query | --file] [seed] [damaged] [accepted]");
+                eprintln!("usage: differ [--query | --file | --clash] [seed] [damaged] [accepted]");
                 return ExitCode::from(2);
             }
         }
@@ -50,6 +53,11 @@ fn main() -> ExitCode {
     if wanted("check") {
         let mut report = report::Report::default();
         check::compare(seed, damaged, accepted, &mut report);
+        sound &= report.finish();
+    }
+    if wanted("clash") {
+        let mut report = clash::ClashReport::default();
+        clash::compare(seed, &mut report);
         sound &= report.finish();
     }
     if wanted("file") {

@@ -133,7 +133,9 @@ impl QueryReport {
     pub fn finish(mut self) -> bool {
         let faults = &mut self.faults;
         self.images.finish("query", LEAST_PROGRAMS, faults);
-        let mut never = vec![Cause::OutputTable, Cause::NumberTable, Cause::Misfiled];
+        // Those are of calls that fill byte tables.
+        let after_23 = |cause: &Cause| *cause > Cause::ArgumentTable;
+        let mut never: Vec<Cause> = Cause::ALL.into_iter().filter(after_23).collect();
         self.query.finish("query", &never, faults);
         never.push(Cause::NodeTable);
         self.host.finish("C call", &never, faults);

@@ -4,11 +4,11 @@
 use foqtirel_binding as library;
 use foqtirel_tests::generator::unfiling::{faulty, numbers};
 use foqtirel_tests::generator::Random;
-use foqtirel_tests::lent;
 use foqtirel_tests::reference;
 
 use crate::file::{filed, rule_count, Filed};
-use crate::filereport::{result_of, FileReport};
+use crate::filereport::FileReport;
+use crate::results::Call;
 
 /// Faulty tables of numbers that are tried on each image.
 const FAULTY: usize = 3;
@@ -73,17 +73,12 @@ fn compare_call(
     random: &mut Random,
     report: &mut FileReport,
 ) -> Option<Vec<u8>> {
-    let mut by_library = lent::bytes(room, random);
-    let mut by_reference = by_library.clone();
-    let wanted = reference::unfile(image, numbers, by_reference.table());
-    let given = library::unfile(image, numbers, by_library.table());
-    let place = by_library.first_difference(&by_reference);
-    if given == result_of(wanted) && place.is_none() {
-        report.unfiling.agreed(wanted);
-        let length = wanted.ok()?;
-        return Some(by_library.table()[..length].to_vec());
-    }
-    let about = format!("numbers {numbers:?}, a table of {room} bytes");
-    report.differed("unfiling", image, (wanted, given), (about, &[place]));
-    None
+    let call = Call {
+        name: "unfiling",
+        image,
+        numbers,
+        reference: &|out| reference::unfile(image, numbers, out),
+        library: &|out| library::unfile(image, numbers, out),
+    };
+    call.compare(room, random, &mut report.unfiling, &mut report.faults)
 }

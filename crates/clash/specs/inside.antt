@@ -1,0 +1,2 @@
+-- What private steps leave: held to the definitions beside this folder.
+pub mod Selected
