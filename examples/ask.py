@@ -16,7 +16,9 @@ MOST_IMAGE = 1836
 MOST_RULES = 96
 MOST_NODES = 4096
 ARGUMENTS = 4096
+BRANCHES = 12
 ANSWERS = {1: "YES", 2: "NO", 3: "UNDECIDED", 4: "UNKNOWN", 5: "UNFINISHED"}
+CODES = {answer: code for code, answer in ANSWERS.items()}
 WITHOUT_TREES = ("UNKNOWN", "UNFINISHED")
 KINDS = {0: "root", 1: "proper", 2: "blocking"}
 MARKS = {1: "U", 2: "D"}
@@ -36,8 +38,18 @@ class Node(ctypes.Structure):
     ]
 
 
+class Billed(ctypes.Structure):
+    """struct foqtirel_billed."""
+
+    _fields_ = [
+        ("number", ctypes.c_uint32),
+        ("place", ctypes.c_uint32),
+        ("shares", ctypes.c_uint32 * BRANCHES),
+    ]
+
+
 class Refused(Exception):
-    """A call was turned away: the cause's number, and the rule or pair it is about."""
+    """A call was turned away: the cause's number, and the rule, pair or line it is about."""
 
     def __init__(self, number, place):
         super().__init__(f"refused {number} {place}")
@@ -54,6 +66,7 @@ class Foqtirel:
         arguments = (ctypes.POINTER(ctypes.c_uint32), ctypes.c_size_t)
         nodes = (ctypes.POINTER(Node), ctypes.c_size_t)
         out = numbers = marks = (ctypes.POINTER(ctypes.c_uint8), ctypes.c_size_t)
+        lines = (ctypes.POINTER(ctypes.c_uint64), ctypes.c_size_t)
         self._check = declared(library.foqtirel_check, ctypes.c_uint64, image)
         self._clash = declared(library.foqtirel_clash, ctypes.c_uint64, image + marks)
         self._file = declared(library.foqtirel_file, ctypes.c_uint64, image + out + numbers)
@@ -61,6 +74,7 @@ class Foqtirel:
         self._list = declared(library.foqtirel_list, ctypes.c_uint64, image + arguments)
         self._trees = declared(library.foqtirel_trees, ctypes.c_uint64, image + asked + arguments + nodes)
         self._query = declared(library.foqtirel_query, ctypes.c_uint32, image + asked)
+        self._bill = declared(library.foqtirel_bill, Billed, lines)
 
     def check(self, image):
         granted(self._check(image, len(image)))
@@ -104,6 +118,23 @@ class Foqtirel:
         if result < 65536:
             raise Refused(result, 0)
         return answered(result)
+
+    def bill(self, lines):
+        """What each branch pays in cents, for lines of a branch, an answer and its number of nodes."""
+        table = (ctypes.c_uint64 * len(lines))()
+        for place, (branch, answer, nodes) in enumerate(lines):
+            table[place] = line(branch, answer, nodes)
+        billed = self._bill(table, len(table))
+        if billed.number != 0:
+            raise Refused(billed.number, billed.place)
+        return list(billed.shares)
+
+
+def line(branch, answer, nodes):
+    # What has no room in its field would pass for another line: it becomes one that the call refuses.
+    if not (0 <= branch < 2**32 and 0 <= nodes < 2**16):
+        return 2**64 - 1
+    return branch * 2**32 + CODES[answer] * 2**16 + nodes
 
 
 def declared(call, result, parameters):
@@ -151,7 +182,8 @@ def check(foqtirel, image):
 
 
 def ask(library, image, literal, budget):
-    """Every call but `clash`, which is for an image that is refused with 14. Raises Refused."""
+    """Every call but `clash`, which is for an image that is refused with 14, and `bill`, which is for the answers to many
+    questions. Raises Refused."""
     foqtirel = Foqtirel(library)
     check(foqtirel, image)
     arguments = foqtirel.list(image)

@@ -1,11 +1,12 @@
 /*
- * Foqtirel: checks the program of an image, marks what clashes in it, writes its filed form and goes back from it, lists its
- * arguments, and says whether it warrants a literal, with the literal's dialectical trees or without.
+ * Foqtirel: checks the program of an image, marks what clashes in it, writes its filed form and goes back from it, lists
+ * its arguments, and says whether it warrants a literal, with the literal's dialectical trees or without. Beside that it
+ * shares out among the branches of a group what such answers cost.
  *
  * Link with libfoqtirel.a, which `rt staticlib foqtirel` writes to target/staticlib/, for x86-64 and the System V calling
  * convention. It needs nothing else but the memory functions of a C library: memset, memcpy, memmove, memcmp.
  *
- * Its code is position independent, so that a shared library can be made of it, which offers the seven calls:
+ * Its code is position independent, so that a shared library can be made of it, which offers the eight calls:
  *
  *     cc -shared -Wl,--whole-archive target/staticlib/libfoqtirel.a -Wl,--no-whole-archive -o target/libfoqtirel.so
  *
@@ -64,17 +65,40 @@ struct foqtirel_node {
 #define FOQTIREL_UNDEFEATED 1u
 #define FOQTIREL_DEFEATED 2u
 
+/* The branches of a group that is billed, numbered from 0, and the most lines of a bill. */
+#define FOQTIREL_BRANCHES 12u
+#define FOQTIREL_MOST_LINES 512u
+
+/*
+ * A line of a bill: branch * 2^32 + code * 65,536 + nodes, made of a branch and of the result of foqtirel_query or
+ * foqtirel_trees. A refusal of either has code 0, so that its line is refused with FOQTIREL_BAD_LINE. A branch of 64 bits
+ * or one that is no integer does not compile here: it could pass for another branch. Where a line is made without this
+ * macro, code and nodes have to be below 65,536 and the branch below 2^32, or it passes for another line.
+ */
+#define FOQTIREL_LINE(branch, result) (((uint64_t)FOQTIREL_32_BITS((branch) | 0) << 32) + (uint64_t)(result))
+
+/*
+ * A bill: what each branch pays, in cents, with number and place 0; or, where it is refused, the number and the place of
+ * the refusal, with every share 0.
+ */
+struct foqtirel_billed {
+    uint32_t number;
+    uint32_t place;
+    uint32_t shares[FOQTIREL_BRANCHES];
+};
+
 /*
  * Bytes of stack that a call needs: it keeps all its own tables there, and walks down the lines of the trees.
  *
- * FOQTIREL_STACK_MOST bytes are enough for every call, image, literal and budget. FOQTIREL_STACK_12_RULES bytes are enough
- * for a program with at most 12 defeasible rules, as long as no line that the call goes down has more than
- * FOQTIREL_STACK_12_LINE arguments: none has where the budget is below that (a call goes one argument past its budget), where
- * the argument list has no more different masks other than 0, or where at most 9 rules are defeasible. One argument more on a
- * line takes at most FOQTIREL_STACK_LEVEL bytes; the lines are counted in the figures above. foqtirel_check, foqtirel_clash,
- * foqtirel_file, foqtirel_unfile and foqtirel_list grow no trees: FOQTIREL_STACK_CHECK bytes are enough for every check and
- * every clash, FOQTIREL_STACK_FILE bytes for every filing and every way back, FOQTIREL_STACK_LIST bytes for every list, and
- * FOQTIREL_STACK_LIST_12 bytes for one of a program with at most 12 defeasible rules.
+ * FOQTIREL_STACK_MOST bytes are enough for every call, image, literal and budget. FOQTIREL_STACK_12_RULES bytes are
+ * enough for a program with at most 12 defeasible rules, as long as no line that the call goes down has more than
+ * FOQTIREL_STACK_12_LINE arguments: none has where the budget is below that (a call goes one argument past its budget),
+ * where the argument list has no more different masks other than 0, or where at most 9 rules are defeasible. One argument
+ * more on a line takes at most FOQTIREL_STACK_LEVEL bytes; the lines are counted in the figures above. foqtirel_check,
+ * foqtirel_clash, foqtirel_file, foqtirel_unfile, foqtirel_list and foqtirel_bill grow no trees: FOQTIREL_STACK_CHECK
+ * bytes are enough for every check, every clash and every bill, FOQTIREL_STACK_FILE bytes for every filing and every way
+ * back, FOQTIREL_STACK_LIST bytes for every list, and FOQTIREL_STACK_LIST_12 bytes for one of a program with at most 12
+ * defeasible rules.
  *
  * How many arguments a line can have is proved: no more than there are different masks other than 0 in the argument list,
  * or one where there are none, whatever the budget and the preferences. With d defeasible rules that is at most 2^d - 1, and
@@ -82,11 +106,11 @@ struct foqtirel_node {
  * differs from the one before.
  *
  * That a call has one frame for each argument of one line at a time, and what a frame takes, is measured, not proved: the
- * tests run the calls on threads with such stacks. For programs with up to 12 defeasible rules and with 16 of them they found
- * enough, with short lines: 76 and 1,100 KiB for foqtirel_list, 132 and 1,160 KiB for foqtirel_trees, 196 and 1,224 KiB for
- * foqtirel_query; and 275 bytes for each argument more on a line. For foqtirel_check, foqtirel_clash, foqtirel_file and
- * foqtirel_unfile 16 KiB are enough, and glibc makes no thread with less. A smaller stack is overrun, as it would be by any C
- * function.
+ * tests run the calls on threads with such stacks. For programs with up to 12 defeasible rules and with 16 of them they
+ * found enough, with short lines: 76 and 1,100 KiB for foqtirel_list, 132 and 1,160 KiB for foqtirel_trees, 196 and 1,224
+ * KiB for foqtirel_query; and 275 bytes for each argument more on a line. For foqtirel_check, foqtirel_clash,
+ * foqtirel_file, foqtirel_unfile and foqtirel_bill 16 KiB are enough, and glibc makes no thread with less. A smaller
+ * stack is overrun, as it would be by any C function.
  */
 #define FOQTIREL_STACK_MOST (4u * 1024u * 1024u)
 #define FOQTIREL_STACK_12_RULES (512u * 1024u)
@@ -110,8 +134,8 @@ struct foqtirel_node {
 
 /*
  * The refusals: the first cause that applies, in this order (4 to 10 for each rule in turn, 12 and 13 for each pair). The
- * first 14 are about the image and can come from every call, but for 14, which foqtirel_clash never gives: it is for such an
- * image. The others come only from the calls that are named.
+ * first 14 are about the image and can come from every call that takes one, but for 14, which foqtirel_clash never gives:
+ * it is for such an image. The others come only from the calls that are named.
  */
 #define FOQTIREL_IMAGE_LENGTH 1u            /* image under 12 or over 1,836 bytes */
 #define FOQTIREL_HEADER 2u                  /* a count over its limit, or bytes 6 and 7 not zero */
@@ -136,6 +160,8 @@ struct foqtirel_node {
 #define FOQTIREL_MISFILED 26u               /* unfile: a number out of range or used twice, or an image not in filed form */
 #define FOQTIREL_IMAGE_ACCEPTED 28u         /* clash: the image is accepted, so nothing clashes in it */
 #define FOQTIREL_MARK_TABLE 29u             /* clash: the byte table is shorter than the image's rule count */
+#define FOQTIREL_TOO_MANY_LINES 34u         /* bill: more than 512 lines */
+#define FOQTIREL_BAD_LINE 35u               /* bill: a line with branch over 11, code outside 1 to 5 or nodes over 4,096 */
 
 /*
  * A result of foqtirel_query taken apart. A refused result has code 0, so a refusal is never taken for an answer. A number
@@ -166,7 +192,7 @@ struct foqtirel_node {
 #define FOQTIREL_64_BITS(result) ((uint64_t)(result) + 0u * sizeof(char[sizeof(result) == sizeof(uint64_t) ? 1 : -1]))
 
 /*
- * Of all seven calls:
+ * Of all eight calls, of which foqtirel_bill takes no image and no table that is written to:
  *
  *   image, length   the image's bytes. They stay the caller's, are only read, and have to stay as they are during the call.
  *                   Any bytes will do: what isn't a sound image is refused. NULL with length 0 is an empty image, refused
@@ -181,10 +207,10 @@ struct foqtirel_node {
  * A refusal leaves every table as it was. After any other result the entries that the call is said to write have the
  * contents it is said to write, and all others keep theirs.
  *
- * The result, and what is written, depend on the parameters, the image's bytes and the numbers that foqtirel_unfile reads
- * alone. A call keeps nothing, allocates nothing, has no global data and takes no locks, so it may run on any number of
- * threads at once, on one image too, each with tables of its own, and in a signal handler with enough stack. It ends on
- * every input.
+ * The result, and what is written, depend on the parameters, the image's bytes, the numbers that foqtirel_unfile reads
+ * and the lines that foqtirel_bill reads alone. A call keeps nothing, allocates nothing, has no global data and takes no
+ * locks, so it may run on any number of threads at once, on one image too, each with tables of its own, and in a signal
+ * handler with enough stack. It ends on every input.
  */
 
 /*
@@ -300,6 +326,27 @@ uint64_t foqtirel_trees(const uint8_t *image, size_t length, uint32_t literal, u
  * FOQTIREL_CODE and FOQTIREL_NODES.
  */
 uint32_t foqtirel_query(const uint8_t *image, size_t length, uint32_t literal, uint32_t budget);
+
+/*
+ * Shares out among the twelve branches of a group what its answers cost, in cents.
+ *
+ *   lines, count   the lines of the bill, made by FOQTIREL_LINE, in any order. They stay the caller's, are only read, and have
+ *                  to stay as they are during the call. NULL with count 0 is a bill without lines, on which nobody pays. With
+ *                  any other count, lines has to point to that many readable numbers.
+ *
+ * A line with YES or NO costs 180 cents and one with UNDECIDED 90, each with 3 cents more for every started 8 nodes.
+ * Lines with UNKNOWN and UNFINISHED are free. The group pays 88 hundredths of the sum of all lines, rounded to the
+ * nearest cent, and that is the sum of the twelve shares. Each branch pays 88 hundredths of the sum of its own lines,
+ * rounded down, or one cent more: the cents that are still missing go one each to the branches with the largest fraction
+ * cut off, the lower branch first among equals. A branch with no fraction cut off gets none.
+ *
+ * A bill with more than FOQTIREL_MOST_LINES lines is refused with FOQTIREL_TOO_MANY_LINES and place 0, one with a line
+ * that has a branch over 11, a code outside 1 to 5 or more than 4,096 nodes with FOQTIREL_BAD_LINE and the place of the
+ * first such line, counted from 0. No share is above 773,161 cents.
+ *
+ * Returns the shares by value, or a refusal: see struct foqtirel_billed.
+ */
+struct foqtirel_billed foqtirel_bill(const uint64_t *lines, size_t count);
 
 #ifdef __cplusplus
 }

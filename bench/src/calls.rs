@@ -1,6 +1,6 @@
 //! The calls of both sides, each with one number as its result, so that the two can be held against each other.
 
-use foqtirel_binding::{self as library, Node};
+use foqtirel_binding::{self as library, Node, BRANCHES};
 use foqtirel_tests::reference::{self, host_number, Analysis, NodeEntry, Refusal, MOST_NODES};
 
 const BUDGET: u32 = MOST_NODES as u32;
@@ -22,6 +22,8 @@ pub enum Call {
     Advise,
     /// Of an image in which something clashes.
     Clash,
+    /// Of lines instead of an image, eight bytes each.
+    Bill,
 }
 
 impl Call {
@@ -37,7 +39,7 @@ impl Call {
     ];
 
     pub fn named(name: &str) -> Option<Call> {
-        let mut all = Call::SOUND.into_iter().chain([Call::Clash]);
+        let mut all = Call::SOUND.into_iter().chain([Call::Clash, Call::Bill]);
         all.find(|call| call.name() == name)
     }
 
@@ -51,6 +53,7 @@ impl Call {
             Call::Host => "C call",
             Call::Advise => "advise",
             Call::Clash => "clash",
+            Call::Bill => "bill",
         }
     }
 }
@@ -61,6 +64,8 @@ pub struct Tables {
     numbers: Vec<u8>,
     /// Read, for the way back.
     form: Vec<u8>,
+    /// Read, for a bill.
+    lines: Vec<u64>,
     arguments: Vec<u32>,
     nodes: Vec<Node>,
     entries: Vec<NodeEntry>,
@@ -72,19 +77,25 @@ impl Tables {
             bytes: vec![0; MOST_IMAGE],
             numbers: vec![0; MOST_RULES],
             form: Vec::new(),
+            lines: Vec::new(),
             arguments: vec![0; MOST_NODES],
             nodes: vec![Node::default(); MOST_NODES],
             entries: vec![NodeEntry::default(); MOST_NODES],
         }
     }
 
-    /// With the filed form and the old numbers for the way back, which are no part of that call.
+    /// With the filed form and the old numbers for the way back, and the lines of a bill, which are no part of those calls.
     pub fn for_call(call: Call, image: &[u8]) -> Tables {
         let mut tables = Tables::new();
         if call == Call::Unfile {
             tables.form = image.to_vec();
             let filed = reference::file(image, &mut tables.form, &mut tables.numbers);
             filed.expect("a sound image");
+        }
+        if call == Call::Bill {
+            let line = |bytes: &[u8]| bytes.try_into().map(u64::from_le_bytes);
+            let lines = image.chunks(8).map(line).collect::<Result<_, _>>();
+            tables.lines = lines.expect("eight bytes for each line");
         }
         tables
     }
@@ -103,6 +114,10 @@ pub fn proved(call: Call, image: &[u8], literal: u32, lent: &mut Tables) -> u64 
             library::query(image, literal, BUDGET).into()
         }),
         Call::Clash => library::clash(image, &mut lent.numbers),
+        Call::Bill => {
+            let shares = library::bill(&lent.lines).shares();
+            shares.map_or_else(|refusal| refusal.number.into(), in_one)
+        }
     }
 }
 
@@ -127,6 +142,7 @@ pub fn plain(call: Call, image: &[u8], literal: u32, lent: &mut Tables) -> u64 {
             Err(refusal) => sum(image, |_| number(refusal)),
         },
         Call::Clash => length(reference::clash(image, &mut lent.numbers)),
+        Call::Bill => reference::bill(&lent.lines).map_or_else(number, in_one),
     }
 }
 
@@ -141,7 +157,14 @@ fn number(refusal: Refusal) -> u64 {
 /// All answers in one number, in which two answers that changed places show.
 fn sum(image: &[u8], answer: impl Fn(u32) -> u64) -> u64 {
     let literals = 2 * u32::from(image.first().copied().unwrap_or(0));
-    (0..literals).fold(0, |all: u64, literal| {
-        all.wrapping_mul(31).wrapping_add(answer(literal))
-    })
+    (0..literals).map(answer).fold(0, with_next)
+}
+
+/// All shares in one number, in the same way.
+fn in_one(shares: [u32; BRANCHES]) -> u64 {
+    shares.into_iter().map(u64::from).fold(0, with_next)
+}
+
+fn with_next(all: u64, next: u64) -> u64 {
+    all.wrapping_mul(31).wrapping_add(next)
 }

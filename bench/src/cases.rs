@@ -1,11 +1,12 @@
 //! The images that are timed, each with the calls on it and the literal that is asked about: one with many nodes for the
-//! image.
+//! image. And bills, whose lines stand in the place of an image.
 
 use std::path::PathBuf;
 use std::{env, fs};
 
 use crate::calls::Call;
 use crate::images::grown;
+use foqtirel_tests::generator::bill::{all_get_a_cent, longest};
 use foqtirel_tests::generator::clash::{slow_clash, with_clash};
 use foqtirel_tests::generator::filing::{alike, turned};
 use foqtirel_tests::generator::{all_applicable, Description};
@@ -68,6 +69,7 @@ pub fn all() -> Vec<Case> {
     }
     cases.extend(to_file());
     cases.extend(to_clash());
+    cases.extend(to_bill());
     cases
 }
 
@@ -105,5 +107,15 @@ fn to_clash() -> [Case; 3] {
         image: program.image(),
         literal: 0,
         calls: &[Call::Clash],
+    })
+}
+
+/// As many lines as there may be, of all branches and answers; and one line for each branch, all of which get a cent more.
+fn to_bill() -> [Case; 2] {
+    [("bill of 512", longest()), ("bill of 12", all_get_a_cent())].map(|(name, lines)| Case {
+        name: name.into(),
+        image: lines.into_iter().flat_map(u64::to_le_bytes).collect(),
+        literal: 0,
+        calls: &[Call::Bill],
     })
 }

@@ -1,7 +1,8 @@
 //! The calls of `include/foqtirel.h` for Rust: safe functions over slices, and their results taken apart.
 //!
-//! Each function returns the number that the C call returns: 64 bits from `check`, `clash`, `file`, `unfile`, `list` and
-//! `trees`, which [`granted`] and [`answered_with_trees`] take apart, and 32 bits from `query`, which are for [`answered`].
+//! Each function returns what the C call returns: 64 bits from `check`, `clash`, `file`, `unfile`, `list` and `trees`, which
+//! [`granted`] and [`answered_with_trees`] take apart, 32 bits from `query`, which are for [`answered`], and [`Billed`] from
+//! `bill`, which has its shares or its refusal.
 
 pub mod raw;
 
@@ -29,7 +30,7 @@ impl Node {
     }
 }
 
-/// Why a call was turned away, and the number of the rule or pair that it is about, 0 where it is about neither.
+/// Why a call was turned away, and the number of the rule, pair or line that it is about, 0 where it is about none.
 #[derive(Clone, Copy, Debug, PartialEq, Eq)]
 pub struct Refusal {
     pub number: u32,
@@ -50,6 +51,35 @@ impl Answer {
             nodes: number & 65_535,
         }
     }
+}
+
+/// The branches that a bill is shared out among.
+pub const BRANCHES: usize = 12;
+
+/// What each branch pays, in cents, with number and place 0; or the number and place of a refusal, with every share 0.
+#[repr(C)]
+#[derive(Clone, Copy, Debug, PartialEq, Eq)]
+pub struct Billed {
+    pub number: u32,
+    pub place: u32,
+    pub shares: [u32; BRANCHES],
+}
+
+impl Billed {
+    /// The twelve shares, or why there are none.
+    pub fn shares(self) -> Result<[u32; BRANCHES], Refusal> {
+        match self {
+            Billed {
+                number: 0, shares, ..
+            } => Ok(shares),
+            Billed { number, place, .. } => Err(Refusal { number, place }),
+        }
+    }
+}
+
+/// A line of a bill: a branch and the result of `query` for it.
+pub fn line(branch: u32, result: u32) -> u64 {
+    u64::from(branch) << 32 | u64::from(result)
 }
 
 /// The number in a result of `check`, `clash`, `file`, `unfile`, `list` or `trees`. A refusal has its own in the upper half,
@@ -149,6 +179,12 @@ pub fn query(image: &[u8], literal: u32, budget: u32) -> u32 {
     unsafe { raw::foqtirel_query(image.as_ptr(), image.len(), literal, budget) }
 }
 
+/// What each branch pays for its lines, or a refusal.
+pub fn bill(lines: &[u64]) -> Billed {
+    // SAFETY: the pointer and the length are the slice's own.
+    unsafe { raw::foqtirel_bill(lines.as_ptr(), lines.len()) }
+}
+
 /// The archive that is linked, for whoever links or looks at it by other means.
 pub fn library() -> &'static Path {
     Path::new(env!("FOQTIREL_LIBRARY"))
@@ -207,6 +243,25 @@ mod tests {
         assert!(nodes[0].undefeated() && !nodes[1].undefeated());
         assert!(granted(check(&image[1..])).is_err());
         assert_eq!(number(clash(&image, &mut [])), Err(28));
+    }
+
+    #[test]
+    fn a_bill_is_shared_out() {
+        let lines = [line(4, (1 << 16) + 16), line(7, (2 << 16) + 9)];
+        let mut shares = [0; BRANCHES];
+        (shares[4], shares[7]) = (164, 163);
+        assert_eq!(bill(&lines).shares(), Ok(shares));
+        assert_eq!(bill(&[]).shares(), Ok([0; BRANCHES]));
+        let refused = bill(&[lines[0], line(12, 3 << 16), line(0, 23)]);
+        let cause = Refusal {
+            number: 35,
+            place: 1,
+        };
+        assert_eq!(
+            (refused.shares(), refused.shares),
+            (Err(cause), [0; BRANCHES])
+        );
+        assert_eq!(bill(&[lines[0]; 513]).number, 34);
     }
 
     /// A fact, something else and the fact's complement.

@@ -6,7 +6,7 @@
 //! apart from these and from each other. They may hold anything, and an entry that the result doesn't name is as it was
 //! afterwards.
 
-use crate::Node;
+use crate::{Billed, Node};
 
 #[link(name = "foqtirel", kind = "static")]
 extern "C" {
@@ -75,4 +75,10 @@ extern "C" {
     /// # Safety
     /// See [the module](self).
     pub fn foqtirel_query(image: *const u8, length: usize, literal: u32, budget: u32) -> u32;
+
+    /// The twelve shares, or a refusal.
+    ///
+    /// # Safety
+    /// See [the module](self): the lines are a table that is only read.
+    pub fn foqtirel_bill(lines: *const u64, count: usize) -> Billed;
 }

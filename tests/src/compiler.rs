@@ -7,7 +7,14 @@ use foqtirel_binding::library;
 
 use crate::header::root;
 
-const STRICT: [&str; 5] = ["-std=c99", "-Wall", "-Wextra", "-Werror", "-pedantic"];
+const STRICT: [&str; 6] = [
+    "-std=c99",
+    "-Wall",
+    "-Wextra",
+    "-Wconversion",
+    "-Werror",
+    "-pedantic",
+];
 
 pub fn run(command: &mut Command) -> Output {
     command

@@ -7,7 +7,8 @@ use crate::generator::accepted::{contested_programs, small_programs};
 use crate::generator::filing::alike;
 use crate::generator::late::late;
 use crate::generator::lengths::sound_images;
-use crate::generator::{accepted, chained, damaged, Description, MADE_BY_RULE};
+use crate::generator::{accepted, chained, damaged, Description, Verdict, MADE_BY_RULE};
+use crate::reference::bill::BRANCHES;
 use crate::reference::{self, NodeEntry, Refusal};
 use crate::vectors;
 
@@ -17,6 +18,9 @@ pub const NUMBER_TABLE: u64 = 25 << 32;
 pub const MISFILED: u64 = 26 << 32;
 pub const IMAGE_ACCEPTED: u64 = 28 << 32;
 pub const MARK_TABLE: u64 = 29 << 32;
+
+/// What a bill comes to: the number and place of its refusal, which are 0 where there is none, and the shares.
+pub type Billed = (Verdict, [u32; BRANCHES]);
 
 /// The lengths of two tables that are lent to one call.
 pub type Lengths = (usize, usize);
@@ -31,12 +35,21 @@ pub struct Side {
     pub list: fn(&[u8], &mut [u32]) -> u64,
     pub trees: fn(&[u8], u32, u32, Lengths) -> u64,
     pub query: fn(&[u8], u32, u32) -> u32,
+    pub bill: fn(&[u64]) -> Billed,
     /// False where answers take long.
     pub quick: bool,
 }
 
 fn packed(result: Result<usize, Refusal>) -> u64 {
     result.map_or_else(Refusal::packed, |number| number as u64)
+}
+
+/// A bill or its refusal, with which every share is 0.
+pub fn billed(outcome: Result<[u32; BRANCHES], Verdict>) -> Billed {
+    match outcome {
+        Ok(shares) => ((0, 0), shares),
+        Err(refusal) => (refusal, [0; BRANCHES]),
+    }
 }
 
 pub const REFERENCE: Side = Side {
@@ -52,6 +65,10 @@ pub const REFERENCE: Side = Side {
         packed(answer.map(|_| reference::host_number(answer) as usize))
     },
     query: reference::host_call,
+    bill: |lines| {
+        let refused = |refusal: Refusal| (refusal.cause.number(), refusal.place as u32);
+        billed(reference::bill(lines).map_err(refused))
+    },
     quick: false,
 };
 
@@ -68,6 +85,14 @@ const LIBRARY: Side = Side {
         foqtirel_binding::trees(image, literal, budget, &mut vec![0; room], &mut nodes)
     },
     query: foqtirel_binding::query,
+    bill: |lines| {
+        let foqtirel_binding::Billed {
+            number,
+            place,
+            shares,
+        } = foqtirel_binding::bill(lines);
+        ((number, place), shares)
+    },
     quick: true,
 };
 
@@ -184,6 +209,13 @@ impl Side {
         let clash = |marks: &mut [u8]| (self.clash)(image, marks);
         let about = || format!("{}: room {room}: {image:02X?}", self.name);
         assert_writes(clash, room, wanted, about);
+    }
+
+    /// Holds a bill to what is wanted: the shares, or a refusal with every share 0.
+    #[track_caller]
+    pub fn assert_bills(&self, lines: &[u64], wanted: Result<[u32; BRANCHES], Verdict>) {
+        let given = (self.bill)(lines);
+        assert_eq!(given, billed(wanted), "{}: {lines:#X?}", self.name);
     }
 
     /// A filed image in the order that sound numbers give.

@@ -5,7 +5,9 @@ use std::fs;
 use std::path::{Path, PathBuf};
 use std::str::FromStr;
 
+use crate::generator::bill::line;
 use crate::generator::Verdict;
+use crate::reference::bill::BRANCHES;
 use crate::reference::NodeEntry;
 
 /// Vectors and literals with exactly as many nodes as the greatest budget, with one more, and with
@@ -99,6 +101,12 @@ pub struct Clash {
     pub outcome: Result<Vec<u8>, Verdict>,
 }
 
+/// The lines of a bill, and its shares or the refusal.
+pub struct Bill {
+    pub lines: Vec<u64>,
+    pub outcome: Result<[u32; BRANCHES], Verdict>,
+}
+
 /// The vectors of request C-12, which name no number table, with one that is always long enough.
 pub fn filings() -> Vec<Filing> {
     let filing = |(lent, outcome): &(String, String)| {
@@ -146,6 +154,32 @@ pub fn clashes() -> Vec<Clash> {
     lines_of("c20").iter().map(clash).collect()
 }
 
+/// The vectors of request C-24.
+pub fn bills() -> Vec<Bill> {
+    let bill = |(lines, outcome): &(String, String)| Bill {
+        lines: bill_lines(lines),
+        outcome: not_refused(outcome).map(shares),
+    };
+    lines_of("c24").iter().map(bill).collect()
+}
+
+/// Each line as `branch:code:nodes`, and `-` for none.
+pub fn bill_lines(text: &str) -> Vec<u64> {
+    let lines = text.split(' ').filter(|&word| word != "-");
+    let numbers = |word: &str| word.split(':').map(number).collect::<Vec<u32>>();
+    lines
+        .map(|word| match numbers(word)[..] {
+            [branch, code, nodes] => line(branch, code, nodes),
+            _ => panic!("no line of a bill: {word}"),
+        })
+        .collect()
+}
+
+fn shares(text: &str) -> [u32; BRANCHES] {
+    let shares: Vec<u32> = text.split(' ').map(number).collect();
+    shares.try_into().expect("twelve shares")
+}
+
 fn image_and_room(lent: &str) -> (Vec<u8>, usize) {
     let (image, room) = lent.split_once(' ').expect("an image and a room");
     (bytes(image), number(room))
@@ -190,12 +224,18 @@ fn marks_outcome(text: &str) -> Result<Vec<u8>, Verdict> {
 
 /// A length and what comes after it, or the refusal.
 fn granted(text: &str) -> Result<(usize, &str), Verdict> {
-    if let Some(refusal) = text.strip_prefix("refused ") {
-        let (cause, place) = refusal.split_once(' ').expect("number and place");
-        return Err((number(cause), number(place)));
-    }
+    let text = not_refused(text)?;
     let (length, rest) = text.split_once(" | ").expect("a length and more");
     Ok((number(length), rest))
+}
+
+/// The text, or the number and place of the refusal that it is.
+fn not_refused(text: &str) -> Result<&str, Verdict> {
+    let Some(refusal) = text.strip_prefix("refused ") else {
+        return Ok(text);
+    };
+    let (cause, place) = refusal.split_once(' ').expect("number and place");
+    Err((number(cause), number(place)))
 }
 
 fn number<Number: FromStr>(text: &str) -> Number {

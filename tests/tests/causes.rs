@@ -9,12 +9,13 @@ use std::path::PathBuf;
 use foqtirel_tests::header::{causes, in_capitals, root};
 use foqtirel_tests::reference::Cause;
 
-/// The enum that carries refusals, the file with its constants, and the causes that are its own.
-const CARRIERS: [(&str, &str, RangeInclusive<usize>); 4] = [
+/// The type that carries refusals, the file with its constants, and the causes that are its own.
+const CARRIERS: [(&str, &str, RangeInclusive<usize>); 5] = [
     ("Verdict", "crates/layout/src/lib.rt", 1..=14),
     ("Answer", "crates/answer/src/lib.rt", 20..=23),
     ("Listed", "crates/calls/src/lib.rt", 23..=23),
     ("Written", "crates/calls/src/lib.rt", 24..=29),
+    ("Billed", "crates/billing/src/lib.rt", 34..=35),
 ];
 
 fn text(path: &str) -> String {
@@ -57,7 +58,11 @@ fn each_cause_has_its_constant() {
     numbers.sort_unstable();
     assert_eq!(
         numbers,
-        (1..=14).chain(20..=26).chain(28..=29).collect::<Vec<_>>()
+        (1..=14)
+            .chain(20..=26)
+            .chain(28..=29)
+            .chain(34..=35)
+            .collect::<Vec<_>>()
     );
     for (carrier, path, own) in CARRIERS {
         let mut wanted = header.clone();
@@ -79,14 +84,14 @@ fn sources() -> Vec<PathBuf> {
     found
 }
 
-/// The first word of these that a bare number follows: where a refusal is made, handed on or compared.
+/// The first word of these that a bare number follows: where a refusal is made, handed on or compared. 0 is no cause's number.
 fn bare_number(line: &str) -> Option<&'static str> {
     let code = line.split("//").next().unwrap_or_default();
     let words = ["number:", "number ==", "number !=", "Refused(", "refused("];
     words.into_iter().find(|word| {
         code.split(word)
             .skip(1)
-            .any(|rest| rest.trim_start().starts_with(|c: char| c.is_ascii_digit()))
+            .any(|rest| rest.trim_start().starts_with(|c| ('1'..='9').contains(&c)))
     })
 }
 
@@ -118,4 +123,5 @@ fn bare_numbers_are_seen() {
     assert_eq!(bare_number("    number: Verdict::REPEATED_RULE,"), None);
     assert_eq!(bare_number("Refused { number: u32, place: u32 },"), None);
     assert_eq!(bare_number("// number: 10"), None);
+    assert_eq!(bare_number("    number: 0,"), None);
 }

@@ -287,6 +287,44 @@ fn python_tells_the_references_trees() {
     refused(name, &["2"], "refused 14 0: rules 0 1 3 4");
 }
 
+/// A bill by the script's own class, with an answer of the library on it.
+#[test]
+fn python_shares_out_a_bill() {
+    let Some(python) = in_python("python_bill") else {
+        return;
+    };
+    let script = "
+import sys
+sys.path.insert(0, sys.argv[1])
+import ask
+foqtirel = ask.Foqtirel(sys.argv[2])
+answer = foqtirel.query(open(sys.argv[3], 'rb').read(), 2, 4096)
+print(answer, foqtirel.bill([(4, 'YES', 16), (7, 'NO', 9), (11, *answer), (0, 'UNFINISHED', 4096)]))
+print(foqtirel.bill([]))
+good, roomless = (0, 'YES', 4096), [(2**32, 'YES', 5), (2**64, 'NO', 5), (-1, 'NO', 5), (3, 'YES', 2**16), (3, 'NO', -2**16)]
+for lines in [[(0, 'UNKNOWN', 0)] * 513, [good, (12, 'UNKNOWN', 0)]] + [[good, bad] for bad in roomless]:
+    try:
+        foqtirel.bill(lines)
+    except ask.Refused as refused:
+        print(refused)
+";
+    let mut command = Command::new(&python.program);
+    // Nothing is to be written beside the script.
+    command
+        .args(["-B", "-c", script])
+        .arg(root().join("examples"));
+    command
+        .arg(&python.words[1])
+        .arg(vectors::directory().join("F.img"));
+    let printed = assert_success(&mut command).stdout;
+    let wanted = "('YES', 3) [0, 0, 0, 0, 164, 0, 0, 163, 0, 0, 0, 161]
+[0, 0, 0, 0, 0, 0, 0, 0, 0, 0, 0, 0]
+refused 34 0
+";
+    let wanted = wanted.to_string() + &"refused 35 1\n".repeat(6);
+    assert_eq!(String::from_utf8_lossy(&printed), wanted);
+}
+
 /// Where nothing is asked, or the image can't be read, or the answer not be written, nothing looks like an answer.
 #[test]
 fn what_is_no_answer_has_its_own_status() {

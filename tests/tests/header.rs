@@ -1,4 +1,4 @@
-//! The header as a C programmer uses it: its numbers, its macros on every kind of result, its struct; and what the
+//! The header as a C programmer uses it: its numbers, its macros on every kind of result, its structs; and what the
 //! library offers and needs.
 
 use std::fs;
@@ -10,6 +10,7 @@ use foqtirel_tests::compiler::{
     assert_success, c_compilation, cpp_compilation, run, shared_library,
 };
 use foqtirel_tests::header::{constants, in_capitals};
+use foqtirel_tests::reference::bill::{BRANCHES, MOST_LINES};
 use foqtirel_tests::reference::{Cause, Code, MOST_NODES};
 
 fn temporary(name: &str) -> PathBuf {
@@ -39,6 +40,8 @@ fn the_header_has_the_numbers() {
     assert_eq!(number("LEAST_IMAGE"), Some(12));
     assert_eq!(number("MOST_IMAGE"), Some(1836));
     assert_eq!(number("MOST_RULES"), Some(96));
+    assert_eq!(number("BRANCHES"), Some(BRANCHES));
+    assert_eq!(number("MOST_LINES"), Some(MOST_LINES));
 }
 
 /// As C and, where there is a compiler for it, as C++.
@@ -60,26 +63,32 @@ fn every_macro_on_every_result() {
     }
 }
 
+/// Whether a program returns a macro of these words, as C and, where there is a compiler for it, as C++. Tests that run at once
+/// need files of different names.
+fn compiles(file: &str, words: &str) -> bool {
+    let (source, as_cpp) = (
+        temporary(&format!("{file}.c")),
+        temporary(&format!("{file}.cpp")),
+    );
+    let program = temporary(file);
+    let text = format!(
+        "#include \"foqtirel.h\"\nint main(void)\n{{\n    return (int)FOQTIREL_{words};\n}}\n"
+    );
+    fs::write(&source, &text).expect("a source");
+    fs::write(&as_cpp, &text).expect("a source");
+    let compiled = run(&mut c_compilation(&source, &program)).status.success();
+    if let Some(mut compiler) = cpp_compilation(&as_cpp, &program) {
+        let agrees = run(&mut compiler).status.success() == compiled;
+        assert!(agrees, "{words}: C++ is of another mind than C");
+    }
+    compiled
+}
+
 /// What takes 64 bits apart doesn't take the 32 of `foqtirel_query`, whose refusals would pass for answers there; and the
 /// other way round, where the number of arguments would.
 #[test]
 fn results_of_32_and_of_64_bits_do_not_pass_for_each_other() {
-    let source = temporary("width.c");
-    let as_cpp = temporary("width.cpp");
-    let program = temporary("width");
-    let compiles = |result: &str, name: &str| {
-        let text = format!(
-            "#include \"foqtirel.h\"\nint main(void)\n{{\n    return (int)FOQTIREL_{name}({result});\n}}\n"
-        );
-        fs::write(&source, &text).expect("a source");
-        fs::write(&as_cpp, &text).expect("a source");
-        let compiled = run(&mut c_compilation(&source, &program)).status.success();
-        if let Some(mut compiler) = cpp_compilation(&as_cpp, &program) {
-            let agrees = run(&mut compiler).status.success() == compiled;
-            assert!(agrees, "{name}: C++ is of another mind than C");
-        }
-        compiled
-    };
+    let compiles = |result: &str, name: &str| compiles("width", &format!("{name}({result})"));
     let wide = [
         "foqtirel_check(NULL, 0)",
         "foqtirel_clash(NULL, 0, NULL, 0)",
@@ -104,8 +113,49 @@ fn results_of_32_and_of_64_bits_do_not_pass_for_each_other() {
     }
 }
 
+/// A branch of 64 bits could lose its upper half. A result may have 32 bits or 64.
+#[test]
+fn a_line_has_a_branch_of_at_most_32_bits() {
+    let results = [
+        "foqtirel_query(NULL, 0, 0, 0)",
+        "foqtirel_trees(NULL, 0, 0, 0, NULL, 0, NULL, 0)",
+    ];
+    let compiles = |branch: &str, result: &str| {
+        let words = format!("LINE({branch}, {result})");
+        compiles("line", &words)
+    };
+    for result in results {
+        for branch in [
+            "(uint8_t)3",
+            "(uint16_t)3",
+            "(uint32_t)3",
+            "(int8_t)3",
+            "(int16_t)3",
+            "3",
+            "11u",
+            "'\\3'",
+            "1 ? 3 : 4",
+            "(int)foqtirel_query(NULL, 0, 0, 0)",
+        ] {
+            assert!(compiles(branch, result), "{branch}, {result}");
+        }
+        for branch in [
+            "(uint64_t)3",
+            "(int64_t)3",
+            "3ul",
+            "(size_t)3",
+            "foqtirel_check(NULL, 0)",
+            "3.7f",
+            "3.0",
+        ] {
+            assert!(!compiles(branch, result), "{branch}, {result}");
+        }
+    }
+}
+
 /// The calls, in the order of their names.
-const CALLS: [&str; 7] = [
+const CALLS: [&str; 8] = [
+    "foqtirel_bill",
     "foqtirel_check",
     "foqtirel_clash",
     "foqtirel_file",

@@ -30,6 +30,7 @@ static uint8_t numbers[FOQTIREL_MOST_RULES];
 static uint8_t marks[FOQTIREL_MOST_RULES];
 static uint32_t arguments[FOQTIREL_ARGUMENTS];
 static struct foqtirel_node nodes[FOQTIREL_MOST_NODES];
+static uint64_t lines[FOQTIREL_MOST_LINES + 1u];
 static int asked;
 
 static uint64_t file(size_t room)
@@ -208,6 +209,77 @@ static int results_of_query(void)
     return 0;
 }
 
+/* The sum of all shares: 0 with a refusal. */
+static uint32_t paid(const struct foqtirel_billed *bill)
+{
+    uint32_t sum = 0;
+    size_t branch;
+
+    for (branch = 0; branch < FOQTIREL_BRANCHES; branch++) {
+        sum += bill->shares[branch];
+    }
+    return sum;
+}
+
+static int results_of_bill(void)
+{
+    struct foqtirel_billed bill = foqtirel_bill(NULL, 0);
+    size_t i;
+
+    DEMAND(bill.number == 0u && bill.place == 0u && paid(&bill) == 0u);
+    /* 183 cents each: the parts are 161.04, and 322.08 in all */
+    lines[0] = FOQTIREL_LINE(4, query(2, FOQTIREL_MOST_NODES));
+    lines[1] = FOQTIREL_LINE(11u, trees(3, 3, 3, 3));
+    lines[2] = FOQTIREL_LINE(0, query(100, 0));
+    lines[3] = FOQTIREL_LINE(0, query(2, 2));
+    bill = foqtirel_bill(lines, 4);
+    DEMAND(bill.number == 0u && bill.place == 0u && paid(&bill) == 322u);
+    DEMAND(bill.shares[4] == 161u && bill.shares[11] == 161u && bill.shares[0] == 0u);
+    /* 186 cents more: 163.68, and 485.76 in all */
+    lines[4] = FOQTIREL_LINE(7, FOQTIREL_YES * 65536u + 16u);
+    bill = foqtirel_bill(lines, 5);
+    DEMAND(bill.shares[4] == 161u && bill.shares[7] == 164u && bill.shares[11] == 161u && paid(&bill) == 486u);
+    /* refusals of query and trees, alone in their lines or not */
+    lines[5] = FOQTIREL_LINE(3, query(FOQTIREL_LITERALS, 0));
+    bill = foqtirel_bill(lines, 6);
+    DEMAND(bill.number == FOQTIREL_BAD_LINE && bill.place == 5u && paid(&bill) == 0u);
+    lines[3] = FOQTIREL_LINE(3, trees(FOQTIREL_LITERALS, 0, 3, 0));
+    bill = foqtirel_bill(lines, 6);
+    DEMAND(bill.number == FOQTIREL_BAD_LINE && bill.place == 3u && paid(&bill) == 0u);
+    lines[1] = FOQTIREL_LINE(FOQTIREL_BRANCHES, query(2, 3));
+    bill = foqtirel_bill(lines, 6);
+    DEMAND(bill.number == FOQTIREL_BAD_LINE && bill.place == 1u && paid(&bill) == 0u);
+    for (i = 0; i < FOQTIREL_MOST_LINES + 1u; i++) {
+        lines[i] = FOQTIREL_LINE(2, FOQTIREL_YES * 65536u + FOQTIREL_MOST_NODES);
+    }
+    bill = foqtirel_bill(lines, FOQTIREL_MOST_LINES);
+    DEMAND(bill.number == 0u && bill.place == 0u && bill.shares[2] == 773161u && paid(&bill) == 773161u);
+    bill = foqtirel_bill(lines, FOQTIREL_MOST_LINES + 1u);
+    DEMAND(bill.number == FOQTIREL_TOO_MANY_LINES && bill.place == 0u && paid(&bill) == 0u);
+    return 0;
+}
+
+/* A branch of each width, and results of 32 and of 64 bits; a negative branch is none below 12. */
+static int lines_of_a_bill(void)
+{
+    const uint8_t narrow = 255;
+    const uint16_t middle = 65535;
+    const int8_t below = -1;
+    const uint32_t result = FOQTIREL_UNDECIDED * 65536u + FOQTIREL_MOST_NODES;
+    const uint64_t half = (uint64_t)1 << 32;
+
+    DEMAND(sizeof(FOQTIREL_LINE(0, result)) == sizeof(uint64_t) && FOQTIREL_LINE(0, 0u) == 0u);
+    DEMAND(FOQTIREL_LINE(11, result) == 11u * half + 3u * 65536u + 4096u);
+    DEMAND(FOQTIREL_LINE(11, (uint64_t)result) == FOQTIREL_LINE(11, result));
+    DEMAND(FOQTIREL_LINE(1 ? 5 : 6, result) == 5u * half + result);
+    DEMAND(FOQTIREL_LINE(5, 1 ? result : 0u) == 5u * half + result);
+    DEMAND(FOQTIREL_LINE(narrow, result) == 255u * half + result);
+    DEMAND(FOQTIREL_LINE(middle, result) == 65535u * half + result);
+    DEMAND(FOQTIREL_LINE(UINT32_MAX, UINT32_MAX) == UINT64_MAX);
+    DEMAND(FOQTIREL_LINE(below, result) == UINT32_MAX * half + result);
+    return 0;
+}
+
 /* Each macro asks for its argument once. */
 static int arguments_once(void)
 {
@@ -230,6 +302,9 @@ static int arguments_once(void)
     DEMAND(FOQTIREL_MASK(*at++) == 2u && at == entry + 1);
     at = entry;
     DEMAND(FOQTIREL_LITERAL(*at++) == 3u && at == entry + 1);
+    at = entry;
+    DEMAND(FOQTIREL_LINE(*at++, query(2, 3)) == ((uint64_t)259u << 32) + 65539u && at == entry + 1 && asked == 11);
+    DEMAND(FOQTIREL_LINE(*at++, trees(2, 3, 3, 3)) == 65539u && at == entry + 2 && asked == 12);
     return 0;
 }
 
@@ -237,6 +312,13 @@ static int layout_of_a_node(void)
 {
     DEMAND(sizeof(struct foqtirel_node) == 12 && offsetof(struct foqtirel_node, parent) == 4);
     DEMAND(offsetof(struct foqtirel_node, kind) == 8 && offsetof(struct foqtirel_node, mark) == 9);
+    return 0;
+}
+
+static int layout_of_a_bill(void)
+{
+    DEMAND(sizeof(struct foqtirel_billed) == 56 && offsetof(struct foqtirel_billed, number) == 0);
+    DEMAND(offsetof(struct foqtirel_billed, place) == 4 && offsetof(struct foqtirel_billed, shares) == 8);
     return 0;
 }
 
@@ -250,6 +332,7 @@ int main(void)
     }
     damaged[29] = 7;
     line = layout_of_a_node();
+    line = line != 0 ? line : layout_of_a_bill();
     line = line != 0 ? line : results_of_check();
     line = line != 0 ? line : results_of_clash();
     line = line != 0 ? line : results_of_file();
@@ -257,6 +340,8 @@ int main(void)
     line = line != 0 ? line : results_of_list();
     line = line != 0 ? line : results_of_trees();
     line = line != 0 ? line : results_of_query();
+    line = line != 0 ? line : results_of_bill();
+    line = line != 0 ? line : lines_of_a_bill();
     line = line != 0 ? line : arguments_once();
     if (line != 0) {
         fprintf(stderr, "line %d\n", line);

@@ -9,6 +9,7 @@ use std::thread;
 
 use foqtirel_binding::{self as library, Node};
 use foqtirel_tests::generator::accepted::small_programs;
+use foqtirel_tests::generator::bill::{bills, longest};
 use foqtirel_tests::generator::clash::{clashing, slow_clash, with_clash};
 use foqtirel_tests::generator::filing::alike;
 use foqtirel_tests::generator::{accepted, all_applicable, many_arguments, Description};
@@ -44,6 +45,14 @@ fn images_up_to(most: usize) -> Vec<Vec<u8>> {
     images
 }
 
+/// Bills with at most so many lines.
+fn bills_up_to(most: usize) -> Vec<Vec<u64>> {
+    let mut all: Vec<Vec<u64>> = bills(3, 900).map(|(_, lines)| lines).collect();
+    all.push(longest());
+    all.retain(|lines| lines.len() <= most);
+    all
+}
+
 #[derive(Clone, Copy, PartialEq)]
 enum Call {
     Check,
@@ -53,10 +62,11 @@ enum Call {
     List,
     Trees,
     Query,
+    Bill,
 }
 
 impl Call {
-    const ALL: [Call; 7] = [
+    const ALL: [Call; 8] = [
         Call::Check,
         Call::Clash,
         Call::File,
@@ -64,6 +74,7 @@ impl Call {
         Call::List,
         Call::Trees,
         Call::Query,
+        Call::Bill,
     ];
 
     fn name(self) -> &'static str {
@@ -75,6 +86,7 @@ impl Call {
             Call::List => "list",
             Call::Trees => "trees",
             Call::Query => "query",
+            Call::Bill => "bill",
         }
     }
 
@@ -84,18 +96,21 @@ impl Call {
     }
 }
 
-/// What a process is to call on its small stack: for each literal of each image.
+/// What a process is to call on its small stack: for each literal of each image, or for each bill.
 struct Order {
     call: Call,
     budget: u32,
     questions: Vec<Question>,
 }
 
+#[derive(Default)]
 struct Question {
     image: Vec<u8>,
     /// The old numbers, for the way back.
     numbers: Vec<u8>,
     literals: Vec<u32>,
+    /// Of a bill.
+    lines: Vec<u64>,
 }
 
 /// The way back is asked about the filed form, and what clashes about a program in which something does.
@@ -112,11 +127,22 @@ fn question(call: Call, image: Vec<u8>, literals: Vec<u32>) -> Question {
         image,
         numbers,
         literals,
+        lines: Vec::new(),
+    }
+}
+
+/// Asked once, as the calls that take no literal are.
+fn bill(lines: Vec<u64>) -> Question {
+    Question {
+        lines,
+        literals: vec![0],
+        ..Question::default()
     }
 }
 
 /// `nothing`, or a call and its images: `rules=N` applicable rules, `upto=N` rules at most, or
-/// the name of a vector with one literal; then `budget=N`, where it is not the greatest.
+/// the name of a vector with one literal; then `budget=N`, where it is not the greatest. Of bills
+/// `lines=N` at most.
 fn order_of(what: &str) -> Option<Order> {
     let (word, rest) = what.split_once(' ')?;
     let call = Call::ALL.into_iter().find(|call| call.name() == word);
@@ -128,6 +154,14 @@ fn order_of(what: &str) -> Option<Order> {
     let (sort, number) = images.split_once('=').expect("a sort of images");
     let number: usize = number.parse().expect("a number");
     let images = match sort {
+        "lines" => {
+            let questions = bills_up_to(number).into_iter().map(bill).collect();
+            return Some(Order {
+                call,
+                budget,
+                questions,
+            });
+        }
         "rules" => vec![all_applicable(number).image()],
         "upto" => images_up_to(number),
         name => {
@@ -173,7 +207,12 @@ fn carry_out(order: &Order, tables: &mut Tables) -> usize {
     let budget = order.budget;
     let mut answered = 0;
     for question in &order.questions {
-        let Question { image, numbers, .. } = question;
+        let Question {
+            image,
+            numbers,
+            lines,
+            ..
+        } = question;
         for &literal in &question.literals {
             let refused = match order.call {
                 Call::Check => library::check(image) >> 32 != 0,
@@ -183,6 +222,7 @@ fn carry_out(order: &Order, tables: &mut Tables) -> usize {
                 Call::List => library::list(image, arguments) >> 32 != 0,
                 Call::Trees => library::trees(image, literal, budget, arguments, nodes) >> 32 != 0,
                 Call::Query => library::query(image, literal, budget) >> 16 == 0,
+                Call::Bill => library::bill(lines).number != 0,
             };
             answered += usize::from(!refused);
         }
@@ -253,6 +293,7 @@ fn every_call_ends_on_the_stack_of_the_header() {
     for (figure, most, what) in [
         ("STACK_CHECK", 16, "check upto=16"),
         ("STACK_CHECK", 16, "clash upto=16"),
+        ("STACK_CHECK", 16, "bill lines=1000"),
         ("STACK_FILE", 16, "file upto=16"),
         ("STACK_FILE", 16, "unfile upto=16"),
         ("STACK_LIST_12", 128, "list upto=12"),
@@ -343,14 +384,17 @@ fn least_stacks() {
     assert_eq!(alone, LEAST_THREAD, "the measure itself takes stack");
     let mut lines = String::new();
     for rules in [0, 8, 12, 16] {
-        let least = Call::ALL.map(|call| {
+        let of_images = Call::ALL.into_iter().filter(|&call| call != Call::Bill);
+        let least = of_images.map(|call| {
             let word = call.name();
             let bytes = least_stack(&format!("{word} rules={rules}"));
             format!("{word} {} KiB", bytes / KIB)
         });
-        let least = least.join(", ");
+        let least = least.collect::<Vec<_>>().join(", ");
         lines += &format!("least stack for {rules} defeasible rules: {least}\n");
     }
+    let least = least_stack("bill lines=512") / KIB;
+    lines += &format!("least stack of bill: {least} KiB\n");
     print!("{lines}");
 }
 

@@ -10,7 +10,7 @@ use crate::filing::Filed;
 use crate::load::{load, load_image, names_image, same_file, same_place, Loaded, STANDARD_INPUT};
 use crate::program::Program;
 use crate::words::{form, sort, usage, Form, Words};
-use crate::{filing, help, numbers, same, svg};
+use crate::{bill, filing, help, numbers, same, shares, svg};
 
 /// A command's text, for standard output, notes on the program, for standard error, and the exit status.
 pub struct Printed {
@@ -70,6 +70,7 @@ fn named(command: &str) -> Result<(&'static str, Command), Fault> {
         "explain" => (help::EXPLAIN, explain),
         "tree" => (help::TREE, tree),
         "advise" => (help::ADVISE, advise),
+        "bill" => (help::BILL, bill),
         other => return Err(usage(&format!("no command `{other}`"), help::ALL)),
     })
 }
@@ -356,4 +357,11 @@ fn advise(words: &[String]) -> Result<Printed, Fault> {
         text += &format!("{name:widest$}  {:10}  {nodes}\n", answer.name());
     }
     Ok(printed(loaded, text))
+}
+
+fn bill(words: &[String]) -> Result<Printed, Fault> {
+    let words = sort(words, &form(1, &[], &[], help::BILL))?;
+    let bill = bill::load(words.places[0])?;
+    let shares = bill.shares()?;
+    Ok(page(&shares::table(&bill.lines, &shares)))
 }

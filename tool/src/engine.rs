@@ -1,7 +1,7 @@
 //! The proved calls of `libfoqtirel.a` in the tool's own words.
 
 use foqtirel_binding::{answered_with_trees, granted};
-pub use foqtirel_binding::{Node, Refusal};
+pub use foqtirel_binding::{Node, Refusal, BRANCHES};
 
 /// The tables that are lent to the engine have so many entries, as the program `advise` and the C call have.
 pub const TABLE: usize = 4096;
@@ -18,6 +18,12 @@ pub const CONTRADICTORY: &str = "the facts and strict rules contradict each othe
 /// The refusals of the way back from filed form: too few numbers, and numbers or an image that are not right.
 pub const NUMBER_TABLE: u32 = 25;
 pub const MISFILED: u32 = 26;
+
+/// The most lines of a bill.
+pub const MOST_LINES: usize = 512;
+/// The refusals of a bill: too many lines, and a line outside the limits.
+pub const TOO_MANY_LINES: u32 = 34;
+pub const BAD_LINE: u32 = 35;
 
 /// An argument of the list: a set of defeasible rules, and what it concludes.
 #[derive(Clone, Copy, Debug, PartialEq, Eq)]
@@ -72,6 +78,8 @@ pub fn meaning(refusal: &Refusal) -> &'static str {
         MISFILED => "this is not what `file` writes",
         28 => "the image is accepted, so nothing clashes in it",
         29 => "the byte table is shorter than the rule count",
+        TOO_MANY_LINES => "a bill has at most 512 lines",
+        BAD_LINE => "a line breaks a limit",
         _ => "a cause that this tool does not know",
     }
 }
@@ -86,7 +94,7 @@ pub enum Answer {
 }
 
 impl Answer {
-    fn from_code(code: u32) -> Answer {
+    pub fn from_code(code: u32) -> Answer {
         match code {
             1 => Answer::Yes,
             2 => Answer::No,
@@ -105,6 +113,12 @@ impl Answer {
             Answer::Unfinished => "UNFINISHED",
         }
     }
+}
+
+/// The code of the answer that a word names, in capitals or not.
+pub fn code_of(word: &str) -> Option<u32> {
+    let names = |code: &u32| Answer::from_code(*code).name().eq_ignore_ascii_case(word);
+    (1..=5).find(names)
 }
 
 /// An answer with the forest that it rests on. UNKNOWN and UNFINISHED leave no entries.
@@ -177,4 +191,18 @@ pub fn query(image: &[u8], literal: u32, budget: u32) -> Result<Verdict, Refusal
         nodes,
         forest,
     })
+}
+
+/// A line of a bill as the call takes it. A number that its field has no room for becomes the greatest that it has room for,
+/// which the call refuses as well.
+pub fn line(branch: u64, code: u64, nodes: u64) -> u64 {
+    let half = u64::from(u16::MAX);
+    let result = code.min(half) << 16 | nodes.min(half);
+    let branch = branch.min(u32::MAX.into());
+    foqtirel_binding::line(branch as u32, result as u32)
+}
+
+/// What each branch pays, in cents.
+pub fn bill(lines: &[u64]) -> Result<[u32; BRANCHES], Refusal> {
+    foqtirel_binding::bill(lines).shares()
 }

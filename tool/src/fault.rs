@@ -60,7 +60,7 @@ impl Flaw {
     /// The flaw with its rules, or else with its source line and a caret below it.
     pub fn render(&self, name: &str, text: &str) -> String {
         let shown = match self.rules.is_empty() {
-            true => self.line_shown(text),
+            true => line_shown(text, self.at),
             false => self.rules_shown(name),
         };
         format!(
@@ -71,19 +71,20 @@ impl Flaw {
         )
     }
 
-    fn line_shown(&self, text: &str) -> String {
-        let line = self.at.line;
-        let (shown, below) = echo(text.lines().nth(line - 1).unwrap_or(""), self.at);
-        let margin = " ".repeat(line.to_string().len());
-        format!(" {line} | {shown}\n {margin} | {below}\n")
-    }
-
     fn rules_shown(&self, name: &str) -> String {
         let rules = self.rules.iter();
         rules
             .map(|(at, rule)| format!(" {}: {rule}\n", place(name, *at)))
             .collect()
     }
+}
+
+/// The line of a place in a text, with a caret below it.
+pub fn line_shown(text: &str, at: Span) -> String {
+    let line = at.line;
+    let (shown, below) = echo(text.lines().nth(line - 1).unwrap_or(""), at);
+    let margin = " ".repeat(line.to_string().len());
+    format!(" {line} | {shown}\n {margin} | {below}\n")
 }
 
 /// A place in a file, as messages name it.
@@ -166,6 +167,17 @@ pub fn plain(text: &str) -> String {
             false => c.to_string(),
         })
         .collect()
+}
+
+/// So many characters of a word are told.
+const WORD: usize = 40;
+
+/// A word as messages tell it: of a long one its beginning.
+pub fn brief(word: &str) -> String {
+    match word.char_indices().nth(WORD) {
+        Some((end, _)) => plain(&word[..end]) + "..",
+        None => plain(word),
+    }
 }
 
 #[derive(Clone, Debug, PartialEq, Eq)]

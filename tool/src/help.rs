@@ -12,6 +12,7 @@ foqtirel: answers from rules that have exceptions, by a proved engine
     foqtirel explain FILE LITERAL        the answer with its dialectical trees
     foqtirel tree FILE LITERAL --svg OUT the trees as a picture
     foqtirel advise FILE                 the answers to all literals
+    foqtirel bill BILL                   what each branch pays for its answers
 
 FILE is a program text or, where its name ends in .img, an image; `-` is a text
 from standard input. `foqtirel COMMAND --help` says more, `foqtirel --version`
@@ -32,7 +33,7 @@ answer as its first word, and a script tells them apart by that.
 
 Preferences that run in a circle are noted on standard error.
 
-Exit status: 0 with any answer, 1 for an error in the program or a refusal,
+Exit status: 0 with any answer, 1 for an error in the text or a refusal,
 2 for wrong usage or a file that can't be read or written. Of `same`: 0 where
 they hold the same, 1 where they don't, 2 for any error.
 ";
@@ -144,4 +145,38 @@ pub const ADVISE: &str = "\
 foqtirel advise FILE
 
 Prints the number of arguments, then each literal with its answer and nodes.
+";
+
+pub const BILL: &str = "\
+foqtirel bill BILL
+
+Shares out what the branches of a group pay for their answers, in cents.
+BILL is text with at most 512 lines: a branch 0 to 11, and an answer with its
+number of nodes, as `ask` tells both; `-` is the standard input. An answer is
+its word, in capitals or not, or its code: 1 YES, 2 NO, 3 UNDECIDED, 4 UNKNOWN,
+5 UNFINISHED. Lines that are empty or a comment do not count.
+
+    % comments go to the line's end
+    0 YES 6
+    11 UNDECIDED 15
+
+YES and NO cost 180 cents and UNDECIDED 90, with 3 more for every started 8
+nodes; UNKNOWN and UNFINISHED are free. The row of a branch has
+
+    lines   the number of its lines
+    sum     what they cost
+    88%     88 hundredths of that
+    down    the same rounded down
+    cut     what was cut off by that
+    more    1 where it pays one of the cents that are missing, else 0
+    share   what it pays: down and more
+
+The group pays 88 hundredths of the grand sum, rounded to the nearest cent. What
+is missing from that after rounding down goes, one cent each, to the branches
+with the largest fraction cut off, the lower branch first among equals. The row
+of the group has each column added up.
+
+A bill that breaks a limit is refused, as in `refused 35 2: orders:7:1: ..`: 34
+for too many lines, or 35 and which line is the first bad one, counted from 0
+without those that do not count, and then where it stands in the text.
 ";

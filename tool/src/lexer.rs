@@ -52,6 +52,14 @@ impl Token {
     }
 }
 
+/// Starts a comment, which goes to the line's end.
+const COMMENT: char = '%';
+
+/// White space, or the mark with which some editors begin a text. Lines and places in them count from 0.
+fn blank(c: char, line: usize, at: usize) -> bool {
+    c.is_whitespace() || (line == 0 && at == 0 && c == '\u{feff}')
+}
+
 /// The tokens of a text; the last one is `End`.
 pub fn tokens(text: &str) -> Vec<(Token, Span)> {
     let mut found = Vec::new();
@@ -63,8 +71,8 @@ pub fn tokens(text: &str) -> Vec<(Token, Span)> {
     for (index, line) in text.lines().enumerate() {
         let line: Vec<char> = line.chars().collect();
         let mut at = 0;
-        while at < line.len() && line[at] != '%' {
-            if line[at].is_whitespace() || (index == 0 && at == 0 && line[at] == '\u{feff}') {
+        while at < line.len() && line[at] != COMMENT {
+            if blank(line[at], index, at) {
                 at += 1;
                 continue;
             }
@@ -119,4 +127,36 @@ fn token(rest: &[char]) -> (Token, usize) {
         }
         (c, _) => (Token::Stray(c), 1),
     }
+}
+
+/// A line without its comment.
+pub fn uncommented(line: &str) -> &str {
+    line.split(COMMENT).next().unwrap_or("")
+}
+
+/// What stands between white space in a line, each with its place. Lines count from 0 here.
+pub fn fields(index: usize, line: &str) -> Vec<(String, Span)> {
+    let mut found: Vec<(String, Span)> = Vec::new();
+    let whole = line.chars().enumerate();
+    for (at, c) in whole.filter(|&(at, c)| !blank(c, index, at)) {
+        let one = Span {
+            line: index + 1,
+            column: at + 1,
+            length: 1,
+        };
+        match found.last_mut() {
+            Some((field, before)) if before.touches(one) => {
+                field.push(c);
+                *before = before.to(one);
+            }
+            _ => found.push((c.to_string(), one)),
+        }
+    }
+    found
+}
+
+/// The number that digits alone make; the greatest there is where they make a greater one.
+pub fn number(field: &str) -> Option<u64> {
+    let digits = !field.is_empty() && field.bytes().all(|byte| byte.is_ascii_digit());
+    digits.then(|| field.parse().unwrap_or(u64::MAX))
 }

@@ -1,10 +1,11 @@
 //! The command-line tool over the proved engine: programs as text, answers with their trees.
 //!
-//! The answers, arguments, trees and marks, the rules that clash, and the images that are filed or put back in order, are the
-//! engine's. What this crate adds is the way in (text to image) and the way out (names, words and pictures), which is tested,
-//! not proved.
+//! The answers, arguments, trees and marks, the rules that clash, the images that are filed or put back in order, and what each
+//! branch pays of a bill, are the engine's. What this crate adds is the way in (text to image, or to the lines of a bill) and the
+//! way out (names, words, tables and pictures), which is tested, not proved.
 
 pub mod asked;
+pub mod bill;
 pub mod clash;
 pub mod command;
 pub mod compile;
@@ -22,6 +23,7 @@ pub mod preference;
 pub mod program;
 pub mod reason;
 pub mod same;
+pub mod shares;
 pub mod source;
 pub mod svg;
 pub mod text;

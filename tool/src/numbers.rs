@@ -2,7 +2,8 @@
 
 use crate::engine::Refusal;
 use crate::explain::count;
-use crate::fault::{plain, Fault, Flaw, Span};
+use crate::fault::{brief, plain, Fault, Flaw, Span};
+use crate::lexer::{fields, number};
 use crate::load::{name_of, read_text, Sort};
 use crate::preference::listing;
 
@@ -39,38 +40,21 @@ pub fn load(path: &str) -> Result<Numbers, Fault> {
 
 /// The numbers of a text, which white space separates.
 pub fn read(text: &str) -> Result<Vec<(u8, Span)>, Flaw> {
-    let mut found = Vec::new();
-    for (index, line) in text.lines().enumerate() {
-        let line: Vec<char> = line.chars().collect();
-        let blank = |at: usize| {
-            line[at].is_whitespace() || (index == 0 && at == 0 && line[at] == '\u{feff}')
-        };
-        let mut at = 0;
-        while at < line.len() {
-            let length = (at..line.len()).take_while(|&place| !blank(place)).count();
-            if length > 0 {
-                let span = Span {
-                    line: index + 1,
-                    column: at + 1,
-                    length,
-                };
-                found.push((number(&line[at..at + length], span)?, span));
-            }
-            at += length.max(1);
-        }
-    }
-    Ok(found)
+    let lines = text.lines().enumerate();
+    let fields = lines.flat_map(|(index, line)| fields(index, line));
+    fields
+        .map(|(field, at)| Ok((old_number(&field, at)?, at)))
+        .collect()
 }
 
-fn number(word: &[char], at: Span) -> Result<u8, Flaw> {
-    let word: String = word.iter().collect();
-    let shown = plain(&word);
-    if !word.chars().all(|c| c.is_ascii_digit()) {
+fn old_number(field: &str, at: Span) -> Result<u8, Flaw> {
+    let shown = brief(field);
+    let Some(number) = number(field) else {
         let what = format!("`{shown}` is no number");
         let help = "write the old number of each rule, one a line, as `file` does with --numbers";
         return Err(Flaw::new(at, what, help));
-    }
-    word.parse().map_err(|_| {
+    };
+    number.try_into().map_err(|_| {
         let what = format!("`{shown}` is above 255");
         Flaw::new(
             at,

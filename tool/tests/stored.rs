@@ -41,6 +41,7 @@ fn commands() {
         "birds.explain",
         "bulletins.explain",
         "branch.same",
+        "group.shares",
     ] {
         let stored = fs::read_to_string(common::examples().join(name)).unwrap();
         let mut told = String::new();

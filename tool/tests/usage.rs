@@ -4,8 +4,8 @@ mod common;
 
 use common::{run, run_with_input};
 
-const COMMANDS: [&str; 9] = [
-    "compile", "file", "unfile", "same", "show", "ask", "explain", "tree", "advise",
+const COMMANDS: [&str; 10] = [
+    "compile", "file", "unfile", "same", "show", "ask", "explain", "tree", "advise", "bill",
 ];
 
 #[test]

@@ -4,6 +4,8 @@ ghost use lib.ListN.{length};
 ghost use Rattle.calls.specs.Calls.{checkCall, listCall, listTable, treesCall, queryArguments, queryNodes, hostCall};
 ghost use Rattle.clash.specs.Calls.{clashCall, clashTable};
 ghost use Rattle.filing.specs.Calls.{fileCall, fileTable, fileNumbers, unfileCall, unfileTable};
+ghost use Rattle.billing.specs.Bills.{billOf};
+use billing::Billed;
 use nodes::Node;
 
 // 0 where the image is accepted, else number * 2^32 + place.
@@ -73,4 +75,12 @@ pub extern "C" fn foqtirel_query(image: &[u8], literal: u32, budget: u32) -> u32
         mark: 0,
     }; 4096];
     packing::pack(warrant::query(image, literal, budget, &mut arguments, &mut nodes))
+}
+
+// What each branch pays, or the number and the place of the cause, by value.
+#[no_mangle]
+pub extern "C" fn foqtirel_bill(lines: &[u64]) -> Billed
+    ensures { λ r. ⌜ r ≡ billOf (now (lines .entry)) ⌝ }
+{
+    biller::bill(lines)
 }

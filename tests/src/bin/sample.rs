@@ -1,6 +1,6 @@
-//! A sample of calls to run under a memory checker: every vector, sound programs, contradictory ones, damaged images.
+//! A sample of calls to run under a memory checker: every vector, sound programs, contradictory ones, damaged images, bills.
 //!
-//! The image and the tables are allocations of exactly the length that the call is told, and the
+//! The image, the lines of a bill and the tables are allocations of exactly the length that the call is told, and the
 //! tables are not written before. So a step outside them shows, and so does an answer that depends
 //! on what stood in a table, or an entry that was left out. What the answers should be is for
 //! `differ` to say.
@@ -8,10 +8,11 @@
 use std::process::ExitCode;
 
 use foqtirel_binding::raw::{
-    foqtirel_clash, foqtirel_file, foqtirel_list, foqtirel_trees, foqtirel_unfile,
+    foqtirel_bill, foqtirel_clash, foqtirel_file, foqtirel_list, foqtirel_trees, foqtirel_unfile,
 };
 use foqtirel_binding::{answered, answered_with_trees, check, granted, query, Node};
 use foqtirel_tests::generator::accepted::small_programs;
+use foqtirel_tests::generator::bill::{bad_lines, bills, longest};
 use foqtirel_tests::generator::clash::clashing;
 use foqtirel_tests::generator::filing::alike;
 use foqtirel_tests::generator::late::late;
@@ -26,6 +27,8 @@ const SEED: u64 = 5;
 const MOST_RULES: usize = 10;
 /// More than any image of the sample has arguments, but for one vector.
 const MOST_ARGUMENTS: usize = 4096;
+/// The part of as many lines as there may be, all of them the dearest.
+const MOST_SHARE: u32 = 773_161;
 
 fn main() -> ExitCode {
     let mut counts = Counts::default();
@@ -93,6 +96,26 @@ fn run(counts: &mut Counts) {
     for longest in [greatest(), alike()] {
         there_and_back(&longest.image(), 0, counts);
     }
+    let vectors = vectors::bills().into_iter().map(|vector| vector.lines);
+    let made = bills(SEED, 540).map(|(_, lines)| lines);
+    let bad = bad_lines().into_iter().map(|line| vec![line]);
+    for lines in vectors.chain(made).chain(bad).chain([longest()]) {
+        bill(&lines, counts);
+    }
+}
+
+/// A bill, with every number of what comes back looked at: a share is at most the part of the dearest lines, and 0 with a
+/// refusal.
+fn bill(lines: &[u64], counts: &mut Counts) {
+    let lines: Box<[u64]> = lines.into();
+    // SAFETY: the pointer and the length are those of the allocation.
+    let billed = unsafe { foqtirel_bill(lines.as_ptr(), lines.len()) };
+    counts.result(billed.number == 0);
+    counts.entries += billed.shares.len();
+    let most = if billed.number == 0 { MOST_SHARE } else { 0 };
+    counts.odd += billed.shares.iter().filter(|&&share| share > most).count();
+    let outside = billed.place != 0 && billed.place as usize >= lines.len();
+    counts.odd += usize::from(outside);
 }
 
 /// One literal by every call, and with a table too short by an entry.

@@ -1,6 +1,7 @@
-//! Seeded images: sound programs of many shapes, and images damaged on purpose.
+//! Seeded images: sound programs of many shapes, and images damaged on purpose. And seeded bills.
 
 pub mod accepted;
+pub mod bill;
 pub mod chained;
 pub mod changes;
 pub mod clash;

@@ -1,6 +1,7 @@
 //! The public calls with their results and their effect on the lent tables.
 
 use super::analysis::Analysis;
+use super::bill::{shares, Line, BRANCHES};
 use super::clash::small_clash;
 use super::derivation::contradictory;
 use super::filing::{filed, old_numbers, unfiled, write_image};
@@ -122,6 +123,12 @@ fn with_room(image: &[u8], out: &[u8], numbers: &[u8]) -> Result<Program, Refusa
 fn write_front(table: &mut [u8], bytes: &[u8]) -> usize {
     table[..bytes.len()].copy_from_slice(bytes);
     bytes.len()
+}
+
+/// The shares of a bill, each line of it branch × 2^32 + code × 65,536 + nodes.
+pub fn bill(lines: &[u64]) -> Result<[u32; BRANCHES], Refusal> {
+    let lines: Vec<Line> = lines.iter().copied().map(Line::of_number).collect();
+    shares(&lines)
 }
 
 /// Lists the arguments of an image; returns how many there are.

@@ -5,6 +5,7 @@ pub mod advise;
 pub mod analysis;
 pub mod argument;
 pub mod attack;
+pub mod bill;
 pub mod calls;
 pub mod clash;
 pub mod derivation;
@@ -20,7 +21,7 @@ pub use advise::advise;
 pub use analysis::Analysis;
 pub use argument::Argument;
 pub use calls::{
-    check, clash, file, host_call, host_number, list, query, unfile, Answer, Code, MOST_NODES,
+    bill, check, clash, file, host_call, host_number, list, query, unfile, Answer, Code, MOST_NODES,
 };
 pub use image::read_image;
 pub use literal::Literal;

@@ -26,11 +26,13 @@ pub enum Cause {
     Misfiled = 26,
     ImageAccepted = 28,
     MarkTable = 29,
+    TooManyLines = 34,
+    BadLine = 35,
 }
 
 impl Cause {
     /// All causes in the order of their numbers.
-    pub const ALL: [Cause; 23] = [
+    pub const ALL: [Cause; 25] = [
         Cause::ImageLength,
         Cause::Header,
         Cause::Directory,
@@ -54,6 +56,8 @@ impl Cause {
         Cause::Misfiled,
         Cause::ImageAccepted,
         Cause::MarkTable,
+        Cause::TooManyLines,
+        Cause::BadLine,
     ];
 
     pub fn number(self) -> u32 {
@@ -65,7 +69,7 @@ impl Cause {
 #[derive(Clone, Copy, Debug, PartialEq, Eq)]
 pub struct Refusal {
     pub cause: Cause,
-    /// The rule or pair number for causes 4 to 10, 12 and 13, otherwise 0.
+    /// The rule or pair number for causes 4 to 10, 12 and 13, the line's for 35, otherwise 0.
     pub place: usize,
 }
 

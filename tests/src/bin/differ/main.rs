@@ -1,8 +1,10 @@
 //! Runs the proved library against the reference and against what is known from construction.
 //!
 //! `differ [seed] [damaged images] [accepted images]`; the two counts are those of the check, which takes all that are made by
-//! rule besides. `--query` compares queries alone, `--file` filing and the way back alone, `--clash` clashes alone.
+//! rule besides. `--query` compares queries alone, `--file` filing and the way back alone, `--clash` clashes alone, `--bill` bills
+//! alone.
 
+mod bill;
 mod check;
 mod clash;
 mod file;
@@ -31,9 +33,11 @@ fn main() -> ExitCode {
             _ if word == "--query" => alone = Some("query"),
             _ if word == "--file" => alone = Some("file"),
             _ if word == "--clash" => alone = Some("clash"),
+            _ if word == "--bill" => alone = Some("bill"),
             Ok(number) => numbers.push(number),
             Err(_) => {
-                eprintln!("usage: differ [--query | --file | --clash] [seed] [damaged] [accepted]");
+                let alone = "[--query | --file | --clash | --bill]";
+                eprintln!("usage: differ {alone} [seed] [damaged] [accepted]");
                 return ExitCode::from(2);
             }
         }
@@ -58,6 +62,11 @@ fn main() -> ExitCode {
     if wanted("clash") {
         let mut report = clash::ClashReport::default();
         clash::compare(seed, &mut report);
+        sound &= report.finish();
+    }
+    if wanted("bill") {
+        let mut report = bill::BillReport::default();
+        bill::compare(seed, &mut report);
         sound &= report.finish();
     }
     if wanted("file") {

@@ -19,10 +19,33 @@ pub struct Faults {
 
 impl Faults {
     pub fn differed(&mut self, image: &[u8], opinions: &[(&str, String)]) {
+        let bytes = image.iter().map(|byte| format!("{byte:02X}"));
+        self.print("an image", "bytes", bytes, opinions);
+    }
+
+    pub fn bill_differed(&mut self, lines: &[u64], opinions: &[(&str, String)]) {
+        let lines = lines.iter().map(|line| format!("{line:X}"));
+        self.print("a bill", "lines", lines, opinions);
+    }
+
+    /// Counts a difference, and prints it with all of what it is about.
+    fn print(
+        &mut self,
+        what: &str,
+        parts: &str,
+        hexadecimal: impl Iterator<Item = String>,
+        opinions: &[(&str, String)],
+    ) {
         self.differences += 1;
-        if self.differences <= MOST_PRINTED {
-            print_difference(image, opinions);
+        if self.differences > MOST_PRINTED {
+            return;
         }
+        let hexadecimal: Vec<String> = hexadecimal.collect();
+        println!("DIFFERENCE in {what} of {} {parts}", hexadecimal.len());
+        for (who, what) in opinions {
+            println!("  {who}: {what}");
+        }
+        println!("  {parts}: {}", hexadecimal.join(" "));
     }
 
     /// Something that must hold of the calls whatever the reference says.
@@ -46,15 +69,6 @@ impl Faults {
         );
         sound
     }
-}
-
-fn print_difference(image: &[u8], opinions: &[(&str, String)]) {
-    let hexadecimal: Vec<String> = image.iter().map(|byte| format!("{byte:02X}")).collect();
-    println!("DIFFERENCE in an image of {} bytes", image.len());
-    for (who, what) in opinions {
-        println!("  {who}: {what}");
-    }
-    println!("  image: {}", hexadecimal.join(" "));
 }
 
 #[derive(Default)]
