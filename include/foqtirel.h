@@ -106,9 +106,9 @@ struct foqtirel_billed {
  * differs from the one before.
  *
  * That a call has one frame for each argument of one line at a time, and what a frame takes, is measured, not proved: the
- * tests run the calls on threads with such stacks. For programs with up to 12 defeasible rules and with 16 of them they
- * found enough, with short lines: 76 and 1,100 KiB for foqtirel_list, 132 and 1,160 KiB for foqtirel_trees, 196 and 1,224
- * KiB for foqtirel_query; and 275 bytes for each argument more on a line. For foqtirel_check, foqtirel_clash,
+ * tests run the calls on threads with such stacks. For programs with up to 12 defeasible rules they found enough, with
+ * short lines: 84 KiB for foqtirel_list, 148 KiB for foqtirel_trees, 212 KiB for foqtirel_query; programs with more rules
+ * whose rows are long take 1,040 KiB more; and 275 bytes for each argument more on a line. For foqtirel_check, foqtirel_clash,
  * foqtirel_file, foqtirel_unfile and foqtirel_bill 16 KiB are enough, and glibc makes no thread with less. A smaller
  * stack is overrun, as it would be by any C function.
  */

@@ -1,7 +1,8 @@
 //! The calls of both sides, each with one number as its result, so that the two can be held against each other.
 
-use foqtirel_binding::{self as library, Node, BRANCHES};
-use foqtirel_tests::reference::{self, host_number, Analysis, NodeEntry, Refusal, MOST_NODES};
+use crate::child::advised;
+use foqtirel_binding::{self as library, Node};
+use foqtirel_tests::reference::{self, host_number, NodeEntry, Refusal, MOST_NODES};
 
 const BUDGET: u32 = MOST_NODES as u32;
 const MOST_IMAGE: usize = 1836;
@@ -18,7 +19,7 @@ pub enum Call {
     Query,
     /// The C call.
     Host,
-    /// The C call for every literal of the image.
+    /// The program `advise`, which answers every literal of the image.
     Advise,
     /// Of an image in which something clashes.
     Clash,
@@ -110,9 +111,7 @@ pub fn proved(call: Call, image: &[u8], literal: u32, lent: &mut Tables) -> u64 
         Call::List => library::list(image, arguments),
         Call::Query => library::trees(image, literal, BUDGET, arguments, nodes),
         Call::Host => library::query(image, literal, BUDGET).into(),
-        Call::Advise => sum(image, |literal| {
-            library::query(image, literal, BUDGET).into()
-        }),
+        Call::Advise => in_one(advised(image)),
         Call::Clash => library::clash(image, &mut lent.numbers),
         Call::Bill => {
             let shares = library::bill(&lent.lines).shares();
@@ -121,7 +120,6 @@ pub fn proved(call: Call, image: &[u8], literal: u32, lent: &mut Tables) -> u64 
     }
 }
 
-/// The reference advises from one reading of the image, as it would for a caller with many questions.
 pub fn plain(call: Call, image: &[u8], literal: u32, lent: &mut Tables) -> u64 {
     let (arguments, entries) = (&mut lent.arguments, &mut lent.entries);
     match call {
@@ -137,10 +135,7 @@ pub fn plain(call: Call, image: &[u8], literal: u32, lent: &mut Tables) -> u64 {
             host_number(answer).into()
         }
         Call::Host => reference::host_call(image, literal, BUDGET).into(),
-        Call::Advise => match Analysis::of_image(image) {
-            Ok(analysis) => sum(image, |literal| analysis.host_call(literal, BUDGET).into()),
-            Err(refusal) => sum(image, |_| number(refusal)),
-        },
+        Call::Advise => in_one(reference::advise(image).into_bytes()),
         Call::Clash => length(reference::clash(image, &mut lent.numbers)),
         Call::Bill => reference::bill(&lent.lines).map_or_else(number, in_one),
     }
@@ -154,17 +149,8 @@ fn number(refusal: Refusal) -> u64 {
     refusal.cause.number().into()
 }
 
-/// All answers in one number, in which two answers that changed places show.
-fn sum(image: &[u8], answer: impl Fn(u32) -> u64) -> u64 {
-    let literals = 2 * u32::from(image.first().copied().unwrap_or(0));
-    (0..literals).map(answer).fold(0, with_next)
-}
-
-/// All shares in one number, in the same way.
-fn in_one(shares: [u32; BRANCHES]) -> u64 {
-    shares.into_iter().map(u64::from).fold(0, with_next)
-}
-
-fn with_next(all: u64, next: u64) -> u64 {
-    all.wrapping_mul(31).wrapping_add(next)
+/// All shares, or all bytes of a text, in one number, in which two that changed places show.
+fn in_one(numbers: impl IntoIterator<Item = impl Into<u64>>) -> u64 {
+    let with_next = |all: u64, next: u64| all.wrapping_mul(31).wrapping_add(next);
+    numbers.into_iter().map(Into::into).fold(0, with_next)
 }

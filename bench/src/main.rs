@@ -2,7 +2,8 @@
 //! of the anchor.
 //!
 //! `--out FILE` keeps the table of the calls, `--compare FILE` prints what changed since such a file was written, and
-//! `--only TEXT` leaves out the images without the text in their name.
+//! `--only TEXT` leaves out the images without the text in their name. With `--worst` it looks for the queries and the runs
+//! of `advise` that take the most instead.
 
 mod anchor;
 mod calls;
@@ -12,33 +13,39 @@ mod images;
 mod measuring;
 mod table;
 mod timing;
+mod worst;
 
 fn main() {
-    let arguments: Vec<String> = std::env::args().skip(1).collect();
-    if arguments.first().is_some_and(|first| first == child::ONCE) {
-        return child::once(&arguments[1..]);
+    let mut arguments = std::env::args().skip(1).peekable();
+    if arguments.peek().is_some_and(|first| first == child::ONCE) {
+        return child::once(&arguments.skip(1).collect::<Vec<_>>());
     }
-    let (mut out, mut compare, mut only) = (None, None, String::new());
-    for option in arguments.chunks(2) {
-        match option {
-            [name, file] if name == "--out" => out = Some(file),
-            [name, file] if name == "--compare" => compare = Some(file),
-            [name, text] if name == "--only" => only.clone_from(text),
-            _ => panic!("--out FILE, --compare FILE or --only TEXT, but not {option:?}"),
+    let (mut out, mut compare, mut only, mut worst) = (None, None, String::new(), false);
+    while let Some(option) = arguments.next() {
+        let mut text = || arguments.next().unwrap_or_else(|| panic!("what {option}?"));
+        match option.as_str() {
+            "--out" => out = Some(text()),
+            "--compare" => compare = Some(text()),
+            "--only" => only = text(),
+            "--worst" => worst = true,
+            _ => panic!("--out FILE, --compare FILE, --only TEXT or --worst, but not {option}"),
         }
     }
+    if worst {
+        return worst::table(&only);
+    }
     // Read before anything is measured, so that a wrong name shows at once, and --out may name the same file.
-    let before = compare.map(|file| table::read(file));
+    let before = compare.map(|file| table::read(&file));
     let mut rows = measuring::table(&only);
     measuring::filed(&rows);
     let against = measuring::anchored(&only);
     rows.extend(against.iter().map(|against| against.row.clone()));
     if let Some(file) = out {
-        table::write(file, &rows);
+        table::write(&file, &rows);
     }
     if let Some(before) = before {
         table::compare(&before, &rows);
         println!();
     }
-    measuring::targets(&rows, &against);
+    measuring::targets(&rows, &against, &only);
 }

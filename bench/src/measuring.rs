@@ -1,30 +1,34 @@
 //! The table of the calls, that of the calls against the anchor, and the targets.
 
 use std::io::{stderr, IsTerminal};
-use std::time::{Duration, Instant};
+use std::time::Duration;
 
-use crate::anchor::{self, Against};
+use crate::anchor::{self, Against, Held};
 use crate::calls::{plain, proved, Call, Tables};
 use crate::cases::{self, Case};
 use crate::child::{ends_within, instructions, Side};
 use crate::table::{Row, HEAD};
 use crate::timing::{best_alone, best_of};
-use foqtirel_tests::vectors;
+use crate::worst;
 
 /// The most that one call may take, by itself or counted; others are left out.
 const LIMIT: Duration = Duration::from_secs(10);
+/// The same where a bar waits for the count.
+pub const PATIENCE: Duration = Duration::from_secs(60);
 /// A counted call takes about so many times as long.
 const COUNTING: u32 = 60;
 /// About how long the turns of one row take together.
 const TURNS_SECONDS: f64 = 4.0;
 const MOST_TURNS: usize = 9;
 
-/// A typical query's instructions, from the image's bytes to the answer, and the seconds of advising on a vector.
+/// A typical query's instructions, from the image's bytes to the answer.
 const MOST_INSTRUCTIONS: u64 = 400_000;
-const MOST_SECONDS: f64 = 5.0;
-/// How many times the anchor's instructions checking an image may take, and how many times a check's filing the longest.
-const MOST_TIMES: f64 = 1.5;
+/// How many times a check's instructions filing the longest image may take.
 const MOST_FILING: f64 = 3.0;
+
+/// Says what is measured of a program.
+const ADVISE: &str = "advise: a whole run of the program; its time has the start of a process in it, its instructions are \
+     those above a run on an empty input";
 
 /// Prints the row of every call on the images whose name has the text in it.
 pub fn table(only: &str) -> Vec<Row> {
@@ -42,13 +46,14 @@ pub fn table(only: &str) -> Vec<Row> {
             println!("{}", rows[rows.len() - 1].line());
         }
     }
-    end_of_table();
+    println!("{ADVISE}");
+    end_of_table(LIMIT);
     rows
 }
 
 /// Says what is missing in a table.
-fn end_of_table() {
-    println!("-: would take over {} s\n", LIMIT.as_secs());
+pub fn end_of_table(limit: Duration) {
+    println!("-: would take over {} s\n", limit.as_secs());
 }
 
 fn row(case: &Case, call: Call) -> Row {
@@ -77,6 +82,7 @@ fn row(case: &Case, call: Call) -> Row {
         plain: plain_seconds.map(|seconds| 1e6 * seconds),
         instructions: count(Side::Proved, our_time),
         plain_instructions: count(Side::Plain, their_time),
+        anchor: None,
     }
 }
 
@@ -90,19 +96,23 @@ pub fn anchored(only: &str) -> Vec<Against> {
     println!("{}", anchor::HEAD);
     let mut rows = Vec::new();
     for image in &images {
-        for (call, anchor) in image.counts {
-            progress(&format!("{}, {}", image.case.name, call.name()));
-            let row = counted(&image.case, call);
-            rows.push(Against { row, anchor });
+        for held in image.held {
+            progress(&format!("{}, {}", image.case.name, held.call.name()));
+            let row = counted(&image.case, held);
+            let most = held.most;
+            rows.push(Against { row, most });
             println!("{}", rows[rows.len() - 1].line());
         }
     }
-    end_of_table();
+    println!("{ADVISE}");
+    println!("C call: held against the anchor's query; advise: against the anchor's call alone");
+    end_of_table(PATIENCE);
     rows
 }
 
-/// The row of a call that the reference does not make.
-fn counted(case: &Case, call: Call) -> Row {
+/// The row of a call that the anchor makes and the reference does not.
+fn counted(case: &Case, held: Held) -> Row {
+    let call = held.call;
     let mut lent = Tables::new();
     let refused = proved(Call::Check, &case.image, case.literal, &mut lent);
     assert_eq!(refused, 0, "{} is refused", case.name);
@@ -112,8 +122,9 @@ fn counted(case: &Case, call: Call) -> Row {
         call: call.name().into(),
         proved: 1e6 * best_alone(2, ours),
         plain: None,
-        instructions: instructions(case, call, Side::Proved, LIMIT),
+        instructions: instructions(case, call, Side::Proved, PATIENCE),
         plain_instructions: None,
+        anchor: Some(held.anchor),
     }
 }
 
@@ -167,14 +178,14 @@ pub fn filed(rows: &[Row]) {
     println!();
 }
 
-/// Holds what was measured, and the time to advise on each vector, against the targets.
-pub fn targets(rows: &[Row], against: &[Against]) {
+/// Holds what was measured, and the time to advise on each image whose name has the text in it, against the targets.
+pub fn targets(rows: &[Row], against: &[Against], only: &str) {
     for call in [Call::Query, Call::Host] {
         typical_target(rows, call);
     }
     file_target(rows);
-    check_target(against);
-    advise_target();
+    anchor_targets(against);
+    worst::advise_target(only);
 }
 
 fn typical_target(rows: &[Row], call: Call) {
@@ -201,47 +212,31 @@ fn file_target(rows: &[Row]) {
     }
 }
 
-fn check_target(against: &[Against]) {
-    let ratios = against
-        .iter()
-        .filter(|against| against.row.call == Call::Check.name())
-        .filter_map(|against| Some((against.ratio()?, &against.row.image)));
-    if let Some((times, name)) = ratios.max_by(|one, other| one.0.total_cmp(&other.0)) {
-        println!(
-            "check against the anchor: at most {times:.2} times ({name}), target {MOST_TIMES}: {}",
-            word(times <= MOST_TIMES)
-        );
+/// Names the bars that do not hold.
+fn anchor_targets(against: &[Against]) {
+    let bars = against.iter().filter(|against| against.most.is_some());
+    let bars = bars.count();
+    if bars == 0 {
+        return;
+    }
+    let complaints: Vec<String> = against.iter().filter_map(Against::complaint).collect();
+    println!(
+        "against the anchor: {} of {bars} bars do not hold",
+        complaints.len()
+    );
+    for complaint in complaints {
+        println!("  {complaint}");
     }
 }
 
-fn advise_target() {
-    let slowest = vectors::names("img").into_iter().map(advised);
-    let (seconds, name) = slowest
-        .max_by(|one, other| one.0.total_cmp(&other.0))
-        .expect("a vector");
-    println!(
-        "advise on a vector: at most {seconds:.2} s ({name}), target {MOST_SECONDS} s: {}",
-        word(seconds < MOST_SECONDS)
-    );
-}
-
-/// The seconds that advising on a vector takes.
-fn advised(name: String) -> (f64, String) {
-    progress(&format!("advise, {name}"));
-    let image = vectors::image(&name);
-    let start = Instant::now();
-    proved(Call::Advise, &image, 0, &mut Tables::new());
-    (start.elapsed().as_secs_f64(), name)
-}
-
 /// Shows on a terminal what is under way, to be written over by what comes next.
-fn progress(text: &str) {
+pub fn progress(text: &str) {
     if stderr().is_terminal() {
         eprint!("{text:<30}\r");
     }
 }
 
-fn word(met: bool) -> &'static str {
+pub fn word(met: bool) -> &'static str {
     if met {
         "met"
     } else {

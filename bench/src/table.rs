@@ -11,6 +11,8 @@ pub struct Row {
     pub plain: Option<f64>,
     pub instructions: Option<u64>,
     pub plain_instructions: Option<u64>,
+    /// Those of the anchor, where it has the image.
+    pub anchor: Option<u64>,
 }
 
 pub const HEAD: &str =
@@ -35,19 +37,27 @@ impl Row {
 
     fn record(&self) -> String {
         format!(
-            "{}\t{}\t{:.3}\t{}\t{}\t{}\n",
+            "{}\t{}\t{:.3}\t{}\t{}\t{}\t{}\n",
             self.image,
             self.call,
             self.proved,
             shown(self.plain.map(|plain| format!("{plain:.3}"))),
             shown(self.instructions),
             shown(self.plain_instructions),
+            shown(self.anchor),
         )
+    }
+
+    /// How many times the anchor's instructions the proved call takes.
+    pub fn times_anchor(&self) -> Option<f64> {
+        let (count, anchor) = self.instructions.zip(self.anchor)?;
+        Some(count as f64 / anchor as f64)
     }
 
     fn parse(line: &str) -> Option<Row> {
         let fields: Vec<&str> = line.split('\t').collect();
-        let [image, call, proved, plain, instructions, plain_instructions] = fields[..] else {
+        let [image, call, proved, plain, instructions, plain_instructions, anchor] = fields[..]
+        else {
             return None;
         };
         Some(Row {
@@ -57,15 +67,16 @@ impl Row {
             plain: plain.parse().ok(),
             instructions: instructions.parse().ok(),
             plain_instructions: plain_instructions.parse().ok(),
+            anchor: anchor.parse().ok(),
         })
     }
 }
 
-fn shown(value: Option<impl ToString>) -> String {
+pub fn shown(value: Option<impl ToString>) -> String {
     value.map_or("-".into(), |value| value.to_string())
 }
 
-const FIELDS: &str = "image\tcall\tproved_us\treference_us\tinstructions\treference_instructions\n";
+const FIELDS: &str = "image\tcall\tproved_us\treference_us\tinstructions\treference_instructions\tanchor_instructions\n";
 
 pub fn write(file: &str, rows: &[Row]) {
     let records: String = rows.iter().map(Row::record).collect();
@@ -74,7 +85,8 @@ pub fn write(file: &str, rows: &[Row]) {
 
 pub fn read(file: &str) -> Vec<Row> {
     let text = fs::read_to_string(file).unwrap_or_else(|error| panic!("{file}: {error}"));
-    text.lines().skip(1).filter_map(Row::parse).collect()
+    let parsed = |line| Row::parse(line).unwrap_or_else(|| panic!("{file}: no row: {line}"));
+    text.lines().skip(1).map(parsed).collect()
 }
 
 /// Prints by how much each row changed. Of the times only the ratio can be compared between two runs.

@@ -11,6 +11,7 @@ pub mod header;
 pub mod lent;
 #[cfg(feature = "library")]
 mod nodes;
+pub mod programs;
 pub mod reference;
 pub mod sides;
 pub mod vectors;

@@ -93,10 +93,10 @@ fn a_wrong_path_is_found() {
 #[test]
 fn a_missing_edit_is_found() {
     assert_found(&[
-        ("| copied | listing/must-fail/dropped_early |", &[]),
+        ("| unmarked | collecting/must-fail/unmarked |", &[]),
         (
-            "| copied | argument/must-fail/copied, argument/must-fail/dropped_early |",
-            &["a.md:1: there is no argument/must-fail/dropped_early"],
+            "| unmarked | collecting/must-fail/unmarked, argument/must-fail/unmarked |",
+            &["a.md:1: there is no argument/must-fail/unmarked"],
         ),
     ]);
 }

@@ -133,7 +133,7 @@ fn bodies_are_read_and_rounds_made_where_they_are_counted() {
     let path = root().join("crates/derivation/src/lib.rt");
     let source = fs::read_to_string(path).expect("the derivation part");
     for (text, functions) in [
-        ("program::body(", &["joins", "adds", "fire"][..]),
+        ("program::body(", &["fire"][..]),
         (" fire(", &["round"]),
         (" round(", &["gather"]),
         (" gather(", &["close"]),

@@ -5,7 +5,7 @@
 
 use std::collections::BTreeMap;
 use std::process::Command;
-use std::thread;
+use std::{fs, thread};
 
 use foqtirel_binding::{self as library, Node};
 use foqtirel_tests::generator::accepted::small_programs;
@@ -13,7 +13,7 @@ use foqtirel_tests::generator::bill::{bills, longest};
 use foqtirel_tests::generator::clash::{clashing, slow_clash, with_clash};
 use foqtirel_tests::generator::filing::alike;
 use foqtirel_tests::generator::{accepted, all_applicable, many_arguments, Description};
-use foqtirel_tests::header::constants;
+use foqtirel_tests::header::{constants, root};
 use foqtirel_tests::reference::image::defeasible_rules;
 use foqtirel_tests::reference::{check, MOST_NODES};
 use foqtirel_tests::sides::REFERENCE;
@@ -140,9 +140,15 @@ fn bill(lines: Vec<u64>) -> Question {
     }
 }
 
-/// `nothing`, or a call and its images: `rules=N` applicable rules, `upto=N` rules at most, or
-/// the name of a vector with one literal; then `budget=N`, where it is not the greatest. Of bills
-/// `lines=N` at most.
+/// An image of `bench/anchor`.
+fn anchored(name: &str) -> Vec<u8> {
+    let path = root().join(format!("bench/anchor/{name}.img"));
+    fs::read(&path).unwrap_or_else(|error| panic!("{}: {error}", path.display()))
+}
+
+/// `nothing`, or a call and its images: `rules=N` applicable rules, `upto=N` rules at most,
+/// `anchor=NAME`, or the name of a vector with one literal; then `budget=N`, where it is not the
+/// greatest. Of bills `lines=N` at most.
 fn order_of(what: &str) -> Option<Order> {
     let (word, rest) = what.split_once(' ')?;
     let call = Call::ALL.into_iter().find(|call| call.name() == word);
@@ -151,21 +157,22 @@ fn order_of(what: &str) -> Option<Order> {
         Some((images, number)) => (images, number.parse().expect("a budget")),
         None => (rest, BUDGET),
     };
-    let (sort, number) = images.split_once('=').expect("a sort of images");
-    let number: usize = number.parse().expect("a number");
+    let (sort, which) = images.split_once('=').expect("a sort of images");
+    let number = || which.parse::<usize>().expect("a number");
     let images = match sort {
         "lines" => {
-            let questions = bills_up_to(number).into_iter().map(bill).collect();
+            let questions = bills_up_to(number()).into_iter().map(bill).collect();
             return Some(Order {
                 call,
                 budget,
                 questions,
             });
         }
-        "rules" => vec![all_applicable(number).image()],
-        "upto" => images_up_to(number),
+        "rules" => vec![all_applicable(number()).image()],
+        "upto" => images_up_to(number()),
+        "anchor" => vec![anchored(which)],
         name => {
-            let questions = vec![question(call, vectors::image(name), vec![number as u32])];
+            let questions = vec![question(call, vectors::image(name), vec![number() as u32])];
             return Some(Order {
                 call,
                 budget,
@@ -375,6 +382,27 @@ fn a_smaller_budget_takes_less_stack() {
         }
     }
     print!("{lines}");
+}
+
+/// Images with the stack that a C call has to stay under on each of their literals, and whether it does.
+const BARS: [(&str, usize, bool); 2] = [("shop1", 160 * KIB, false), ("all16", 192 * KIB, false)];
+
+/// Judged where it is said to hold.
+#[test]
+fn a_c_call_stays_under_its_bar() {
+    let mut lines = String::new();
+    let mut held = true;
+    for (name, bar, holds) in BARS {
+        let least = least_stack(&format!("query anchor={name}"));
+        lines += &format!(
+            "least stack of query on {name}: {} KiB, to be under {} KiB\n",
+            least / KIB,
+            bar / KIB
+        );
+        held &= least < bar || !holds;
+    }
+    print!("{lines}");
+    assert!(held, "{lines}");
 }
 
 /// Measured, not judged.

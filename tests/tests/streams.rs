@@ -1,35 +1,22 @@
 //! The program `advise` and its streams: what it reads and prints, and what it says where it can't.
 //!
-//! It is taken from FOQTIREL_BIN_DIR where that is set, otherwise from where `rt check advise` writes it. It has no way to
-//! set an exit status, so that a failure shows in its line on standard error alone.
+//! It has no way to set an exit status, so that a failure shows in its line on standard error alone.
 
 use std::fs::{File, OpenOptions};
 use std::io::{Read, Write};
 use std::os::unix::process::ExitStatusExt;
-use std::path::PathBuf;
 use std::process::{Child, Command, ExitStatus, Stdio};
 use std::thread;
 use std::time::{Duration, Instant};
 
-use foqtirel_tests::header::root;
-use foqtirel_tests::vectors;
+use foqtirel_tests::{programs, vectors};
 
 /// Far more than the slowest vector takes.
 const LIMIT: Duration = Duration::from_secs(60);
 const SIGPIPE: i32 = 13;
 
 fn advise() -> Command {
-    let directory = match std::env::var("FOQTIREL_BIN_DIR") {
-        Ok(named) if !named.is_empty() => PathBuf::from(named),
-        _ => root().join("target/bin"),
-    };
-    let program = directory.join("advise");
-    assert!(
-        program.exists(),
-        "{} is not there: make it with `rt check advise`, or set FOQTIREL_BIN_DIR to its directory",
-        program.display()
-    );
-    Command::new(program)
+    Command::new(programs::advise())
 }
 
 /// The standard input: a vector.

@@ -2,7 +2,5 @@
 pub mod MaskClosures
 pub mod Minimal
 pub mod Lists
-pub mod Tables
-pub mod Entries
-mod Fills
+pub mod SetTables
 pub mod SubArguments

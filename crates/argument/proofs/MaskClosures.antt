@@ -19,7 +19,7 @@ use Rattle.derivation.proofs.Chains.{derives-mono}
 use Rattle.derivation.proofs.Contradictions.{contradictory-mono}
 use Rattle.derivation.proofs.Choices.{Π-with-mono, Π-with-rules, Π-with-cases, Π-with-but-one}
 use Rattle.argument.specs.Argument.{Subset}
-use Rattle.argument.specs.inside.Fresh.{maskClosure}
+use Rattle.argument.specs.inside.MaskClosure.{maskClosure}
 
 -- the mask without one bit
 pub minus-subset : (m b : ℕ) → Subset (minus m (2 ^ b)) m

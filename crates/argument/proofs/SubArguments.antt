@@ -16,7 +16,7 @@ use Rattle.derivation.specs.Closure.{derives, contradictory}
 use Rattle.derivation.proofs.Chains.{derives-complete}
 use Rattle.argument.specs.Argument.{Subset, Argument, SubArgument, maskOf, literalOf}
 use Rattle.argument.specs.List.{derivesWithout}
-use Rattle.argument.specs.inside.Fresh.{maskClosure}
+use Rattle.argument.specs.inside.MaskClosure.{maskClosure}
 use Rattle.argument.proofs.MaskClosures.{minus-subset, mask-derives-mono, mask-contradictory-mono}
 use Rattle.argument.proofs.Minimal.{Needs, argument-by-one, argument-literal-below}
 

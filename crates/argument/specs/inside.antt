@@ -1,3 +1,3 @@
--- What private steps are asked and what they leave, and the tables they work on: held to the definitions beside this folder.
-pub mod Closures
-pub mod Fresh
+-- What a mask derives, and tables of literal sets: held to the definitions beside this folder.
+pub mod MaskClosure
+pub mod Sets

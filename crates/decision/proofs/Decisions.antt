@@ -12,7 +12,7 @@ use lib.Seq.{sets}
 use Rattle.program.specs.Program.{Program}
 use Rattle.program.specs.inside.Table.{Holds}
 use Rattle.derivation.specs.Derivation.{complement}
-use Rattle.defeat.specs.inside.Exclusions.{Excluded, Conclusions}
+use Rattle.excluded.specs.inside.Exclusions.{Excluded, Conclusions}
 use Rattle.tree.specs.Entries.{Entry}
 use Rattle.tree.specs.inside.Tables.{Columns, columns, written, past, Hold, Built}
 use Rattle.tree.specs.inside.Steps.{Prepared}
@@ -29,27 +29,27 @@ use Rattle.outcome.proofs.Concluded.{Concluded}
 
 -- ---- the tables that the forest is built from
 
-module _ {table : List ℕ} (w : Held table) {closures arguments : List ℕ} {count : ℕ} (l : Listing w closures arguments count)
+module _ {table : List ℕ} (w : Held table) {rows arguments : List ℕ} {count : ℕ} (l : Listing w rows arguments count)
     (exclusions : List ℕ) (u : ℕ) (c : Conclusions u (take count arguments))
     (e : (p : Program) → Holds p table → Excluded (p .rules) u exclusions) where
-  abbrev pub prepared : Prepared table closures exclusions arguments count
+  abbrev pub prepared : Prepared table rows exclusions arguments count
   prepared = record {
     program = w .program;
     conclusions = u;
     made = record {
       limits = w .limits;
       holds = w .holds;
-      filled = l .filled;
+      told = l .told;
       excluded = e (w .program) (w .holds);
       conclusions = subst (Conclusions u) (l .listed) c;
       listed = l .listed;
     };
-    room = l .room;
+    laid = l .laid;
     counted = l .counted;
   }
 
   pub roots-ready : (h budget : ℕ) (t : Columns) (line : List ℕ) → Asked table h budget t → 4096 ≤ length line
-      → RootsReady table closures exclusions arguments count line 0 budget t
+      → RootsReady table rows exclusions arguments count line 0 budget t
   roots-ready h budget t line a k = record {
     prepared = prepared;
     below = omega arith;

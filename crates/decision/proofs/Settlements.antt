@@ -2,20 +2,18 @@
 use mathlib.Core.Path.{_≡_, refl, sym, ap, _∙_, subst}
 use mathlib.Core.Bool.{Bool, true, false}
 use mathlib.Core.List.{List, _++_}
-use Prim.Native.Nat.{ℕ, _+_, _*_, _^_, _≤_}
+use Prim.Native.Nat.{ℕ, _≤_}
 use native.Mathlib.Omega.{arith}
 use lib.Dec.{leb}
 use lib.ListN.{length, take, drop, length-append, length-drop}
 use lib.Seq.{take-append-seam}
-use lib.Pow.{pow-mono}
 use Rattle.lists.specs.Lists.{choose}
-use Rattle.program.specs.Program.{Program, defeasibles}
-use Rattle.program.specs.inside.Table.{bitCount}
+use Rattle.program.specs.Program.{Program}
 use Rattle.listing.specs.declared.Listed.{Listed}
 use Rattle.listing.specs.declared.Listed.the-variants.{Count, Over}
 use Rattle.argument.specs.List.{argumentList}
 use Rattle.listing.specs.inside.Listing.{listed, withList}
-use Rattle.argument.specs.inside.Closures.{Filled, Room}
+use Rattle.closures.specs.inside.Table.{Laid, Tells}
 use Rattle.tree.specs.inside.Tables.{Columns}
 use Rattle.answer.specs.declared.Answer.{Answer}
 use Rattle.answer.specs.declared.Answer.the-variants.{Refused}
@@ -60,12 +58,10 @@ module _ {table : List ℕ} (w : Held table) (arguments : List ℕ) {arguments�
   count-is : count ≡ length l
   count-is = count-fits l arguments count result .1
 
-  pub listing : (closures closures′ : List ℕ) → Filled (w .program .rules) (2 ^ bitCount table) closures′ → Room (bitCount table) closures
-      → length closures′ ≡ length closures → Listing w closures′ arguments′ count
-  listing closures closures′ filled room long = record {
-    filled = subst (λ (n : ℕ). Filled (w .program .rules) (2 ^ n) closures′) (w .holds .bits-are) filled;
-    room = subst (λ (n : ℕ). Room n closures′) (w .holds .bits-are)
-        (record { few = room .few; long = subst (λ (n : ℕ). 2 * 2 ^ bitCount table ≤ n) (sym long) (room .long) });
+  pub listing : (rows : List ℕ) → Tells (w .program .rules) rows → Laid rows → Listing w rows arguments′ count
+  listing rows told laid = record {
+    told = told;
+    laid = laid;
     listed = ap (λ (n : ℕ). take n arguments′) count-is ∙ ap (take (length l)) stands ∙ take-append-seam l (drop (length l) arguments);
     counted = subst (λ (n : ℕ). count ≤ n) (sym (ap length stands ∙ length-append l (drop (length l) arguments))) (omega (arith, count-is));
   }
@@ -89,14 +85,3 @@ settled-over p h b arguments arguments′ t e w = record {
   arguments-are = w;
   nodes-are = refl;
 }
-
--- ---- a closure table for k defeasible rules has room for a program with no more
-
-pub room-for : (k bits : ℕ) (closures : List ℕ) → bits ≤ k → k ≤ 16 → 2 * 2 ^ k ≤ length closures → Room bits closures
-room-for k bits closures few h long = record {
-  few = omega arith;
-  long = omega (arith, pow-mono {i = bits} {j = k} few);
-}
-
-pub held-few : {table : List ℕ} → Held table → bitCount table ≤ 16
-held-few w = omega (arith, w .holds .bits-are, w .limits .defeasibles-limit)

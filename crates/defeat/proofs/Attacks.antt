@@ -1,4 +1,4 @@
--- Which sub-arguments a listed argument attacks, as the closure table and the exclusion table tell it, and the kind that
+-- Which sub-arguments a listed argument attacks, as the table of rows and the exclusion table tell it, and the kind that
 -- follows.
 use mathlib.Core.Path.{_≡_, refl, sym, ap, ap₂, _∙_, subst}
 use mathlib.Core.Bool.{Bool, true, false, _&&_, false≢true}
@@ -8,7 +8,7 @@ use Prim.Native.Nat.{ℕ, zero, suc, _+_, _*_, _^_, _<_, _≤_}
 use native.Mathlib.Numerals.{add-one}
 use native.Mathlib.Decide.{decLt}
 use native.Mathlib.Omega.{arith}
-use lib.Dec.{T}
+use lib.Dec.{T, lit<}
 use lib.ListN.{length, getD, take, drop}
 use lib.Seq.{drop-cons, length-take-le, getD-take}
 use Rattle.lists.specs.Lists.{any}
@@ -17,25 +17,26 @@ use Rattle.lists.proofs.Orders.{ascending-rest}
 use Rattle.lists.proofs.Places.{there}
 use Rattle.literals.specs.Sets.{has, within, meets}
 use Rattle.literals.proofs.Tests.{true-T, same-test, not-true-false, and-intro, and-left, and-right}
-use Rattle.literals.proofs.Members.{has-cases, has-empty}
+use Rattle.literals.proofs.Members.{has-bound, has-cases, has-empty}
 use Rattle.literals.proofs.Within.{within-each, each-within, within-le, meets-both, both-meets}
 use Rattle.program.specs.Program.{Rule, Program, defeasibles, Π-mask}
 use Rattle.program.specs.Limits.{Limits, Mask}
 use Rattle.derivation.specs.Closure.{contradictory, excludes}
 use Rattle.derivation.proofs.Contradictions.{excludes-sym, excludes-derived}
-use Rattle.derivation.proofs.Choices.{Π-with-mono}
+use Rattle.derivation.proofs.Closures.{closure-below}
+use Rattle.derivation.proofs.Choices.{Π-with-mono, Π-with-rules}
 use Rattle.derivation.proofs.Tables.{limits-heads}
 use Rattle.argument.specs.Argument.{Subset, Argument, SubArgument, maskOf, literalOf}
 use Rattle.argument.specs.List.{argumentList}
-use Rattle.argument.specs.inside.Fresh.{maskClosure}
-use Rattle.argument.specs.inside.Closures.{closureAt}
+use Rattle.argument.specs.inside.MaskClosure.{maskClosure}
 use Rattle.argument.proofs.Minimal.{argument-derives, argument-coherent, argument-mask-below}
 use Rattle.argument.proofs.SubArguments.{argument-derived, sub-argument-literal, literal-sub-argument}
 use Rattle.argument.proofs.Lists.{list-sound, list-complete, list-ascending}
 use Rattle.defeat.specs.Tests.{kind}
 use Rattle.defeat.specs.OfProgram.{testsOf}
-use Rattle.defeat.specs.inside.Exclusions.{excludedBy, Ready}
-use Rattle.defeat.specs.inside.Steps.{attacksBy, attackedBy, kindAmong}
+use Rattle.defeat.specs.inside.Exclusions.{Ready}
+use Rattle.excluded.specs.inside.Exclusions.{excludedBy}
+use Rattle.defeat.specs.inside.Steps.{AttacksBy, attackedBy, kindAmong}
 use Rattle.defeat.proofs.Weighing.{any-same, any-none, among-none, among-same, kind-among}
 
 -- ---- arguments that do not exclude each other
@@ -105,8 +106,8 @@ module _ (p : Program) (limits : Limits p) where
 
 -- ---- by the two tables
 
-module _ {p : Program} {u : ℕ} {table closures exclusions arguments : List ℕ} {count : ℕ}
-    (ready : Ready p u table closures exclusions arguments count) (x y : ℕ)
+module _ {p : Program} {u : ℕ} {table rows exclusions arguments : List ℕ} {count : ℕ}
+    (ready : Ready p u table rows exclusions arguments count) (x y : ℕ)
     (lx : List·Memᴰ x (argumentList (p .rules))) (ly : List·Memᴰ y (argumentList (p .rules))) where
   abbrev list : List ℕ
   list = argumentList (p .rules)
@@ -114,13 +115,6 @@ module _ {p : Program} {u : ℕ} {table closures exclusions arguments : List ℕ
   -- z is a sub-argument of y, and x attacks it
   abbrev attacks : ℕ → Bool
   attacks z = within (maskOf z) (maskOf y) && excludes (p .rules) (literalOf x) (literalOf z)
-
-  -- the closure of y's mask is in the table
-  derived-is : closureAt closures (maskOf y) ≡ maskClosure (p .rules) (maskOf y)
-  derived-is =
-      let stands = ready .filled (maskOf y) (listed-mask p (ready .limits) y ly) in
-      let ay = listed-argument p (ready .limits) y ly in
-      stands .exact (stands .clashing ∙ argument-coherent (p .rules) (maskOf y) (literalOf y) ay)
 
   -- the row of x's literal says which listed arguments x excludes
   pub row-excludes : 128 ≤ x → (z : ℕ) → List·Memᴰ z (argumentList (p .rules))
@@ -151,13 +145,28 @@ module _ {p : Program} {u : ℕ} {table closures exclusions arguments : List ℕ
       → attackedBy (excludedBy exclusions (literalOf x)) (maskOf y) z ≡ attacks z
   attacked-same h z lz = ap (λ (t : Bool). within (maskOf z) (maskOf y) && t) (row-excludes h z lz)
 
-  -- the early test: the row meets what y's mask derives exactly if x attacks a sub-argument of y
-  pub attacked-meets : 128 ≤ x
-      → meets (excludedBy exclusions (literalOf x)) (closureAt closures (maskOf y)) ≡ any attacks list
-  attacked-meets h =
-      ap (meets (excludedBy exclusions (literalOf x))) derived-is
-      ∙ sub-meets p (ready .limits) (excludedBy exclusions (literalOf x)) y ly
-      ∙ any-same (attackedBy (excludedBy exclusions (literalOf x)) (maskOf y)) attacks list (attacked-same h)
+  -- the early test: where it fails, x attacks no sub-argument of y
+  pub none-attacked : 128 ≤ x → AttacksBy exclusions rows x y false → any attacks list ≡ false
+  none-attacked h by = not-true-false (any attacks list) (λ e.
+      found
+      (meets-both row derived
+      (sub-meets p (ready .limits) row y ly ∙ any-same (attackedBy row (maskOf y)) attacks list (attacked-same h) ∙ e)))
+    where
+      row : ℕ
+      row = excludedBy exclusions (literalOf x)
+
+      derived : ℕ
+      derived = maskClosure (p .rules) (maskOf y)
+
+      -- what the mask derives is a literal
+      below : derived < 2 ^ 128
+      below =
+          closure-below (Π-mask (maskOf y) (p .rules)) 128 0
+          (λ r d. limits-heads (ready .limits) r (Π-with-rules (p .rules) (has (maskOf y)) r d)) (lit< tt)
+
+      found : (k : ℕ) × (has row k ≡ true) × (has derived k ≡ true) → ⊥
+      found (k, a, b) =
+          false≢true (by .passes k a (ready .told .derived k (maskOf y) (has-bound derived 128 k below b) ∙ b))
 
   -- ---- the kind
 
@@ -181,13 +190,13 @@ module _ {p : Program} {u : ℕ} {table closures exclusions arguments : List ℕ
         ∙ and-right (within (maskOf z) (maskOf y)) (excludes (p .rules) (literalOf x) (literalOf z)) q))))
 
     -- where by the tables it does not attack, x is no defeater: with an empty mask it is none, whatever stands in the row
-    pub kind-apart : attacksBy exclusions closures x y ≡ false
+    pub kind-apart : AttacksBy exclusions rows x y false
         → kind (testsOf p preferred) x y ≡ 0
     kind-apart e = go (decLt x 128)
       where
         go : Dec (x < 128) → kind (testsOf p preferred) x y ≡ 0
         go (yes l) = kind-strict l
-        go (no n) = among ∙ among-none attacks over under list (sym (attacked-meets (omega arith)) ∙ e)
+        go (no n) = among ∙ among-none attacks over under list (none-attacked (omega arith) e)
 
     pub kind-weighed : 128 ≤ x
         → kindAmong (attackedBy (excludedBy exclusions (literalOf x)) (maskOf y)) over under list

@@ -4,6 +4,6 @@ pub mod Renders
 pub mod Defeat
 pub mod Kind
 pub mod OfProgram
-pub mod Rows
 pub mod Weighing
 pub mod Attacks
+mod Searching

@@ -1,4 +1,3 @@
 // Attack and defeat. specs/ has the definitions, proofs/ the theorems that join the published and the computed ones.
 
 pub mod defeaters;
-pub mod exclusions;

@@ -5,8 +5,6 @@ pub mod Chains
 pub mod Contradictions
 pub mod Choices
 pub mod Tables
-pub mod Parts
 pub mod Gatherings
 pub mod Evaluated
 mod Turns
-mod Joints

@@ -1,17 +1,16 @@
 // What a set of rules derives from given literals. The rules are those of a rule table: the strict ones, and the
 // defeasible ones whose bit is in a mask.
 ghost use mathlib.Core.Path.{_≡_};
-ghost use mathlib.Core.Bool.{true, false};
-ghost use Prim.Native.Nat.{ℕ, _+_, _^_, _<_, _≤_};
+ghost use mathlib.Core.Bool.{true};
+ghost use Prim.Native.Nat.{_+_, _^_, _<_, _≤_};
 ghost use lib.Count.{ones};
-ghost use Rattle.literals.specs.Sets.{has as «hasOf», within as «withinOf»};
+ghost use Rattle.literals.specs.Sets.{within as «withinOf»};
 ghost use Rattle.literals.specs.inside.Words.{setOf};
-ghost use Rattle.program.specs.Program.{Program, Π-mask, Π};
-ghost use Rattle.program.specs.inside.Table.{headAt, ruleCount, Holds, Shaped};
+ghost use Rattle.program.specs.Program.{Program, Π-mask};
+ghost use Rattle.program.specs.inside.Table.{headAt, Holds, Shaped};
 ghost use Rattle.derivation.specs.Closure.{closure, excludes as «excludesOf»};
 ghost use Rattle.derivation.specs.Gathering.{Rounded, Gathers};
-ghost use Rattle.derivation.specs.inside.Steps.{onAt, Fired, joinsAt, addsAt};
-ghost use Rattle.derivation.specs.inside.Parts.{RulesOf, StrictOf, Parted};
+ghost use Rattle.derivation.specs.inside.Steps.{onAt, Fired};
 use literals::LiteralSet;
 use literals::masks;
 use program::RuleTable;
@@ -34,88 +33,6 @@ pub fn excludes(table: &RuleTable, a: u64, b: u64) -> bool
 {
     let both = LiteralSet::empty().insert(a).insert(b);
     close(table, 0, both).contradictory()
-}
-
-// What the strict rules bring to a union of closed sets: what Π derives by itself, and the numbers of the rules that may
-// add to the union.
-pub struct Strict {
-    pub derived: LiteralSet,
-    pub joint: LiteralSet,
-}
-
-// A strict rule with one body literal, or none, adds nothing to a union of closed sets, and one whose head Π derives
-// nothing to a set that has what Π derives. The joint rules are the others.
-pub fn strict_part(table: &RuleTable) -> Strict
-    requires { ⌜ Shaped (now table) ⌝ }
-    ensures { λ r. ⌜ RulesOf (now (table .entry)) (setOf (r .joint)) ⌝ }
-    ensures { λ r. ⌜ ((p : Program) → Holds p (now (table .entry)) → StrictOf (p .rules) (setOf (r .derived)) (setOf (r .joint))) ⌝ }
-{
-    let derived = close(table, 0, LiteralSet::empty());
-    let rules = program::rule_count(table);
-    let mut joint = LiteralSet::empty();
-    let mut rule: u64 = 0;
-    while rule < rules {
-        if joins(table, rule, derived) {
-            joint = joint.insert(rule);
-        }
-        rule += 1;
-    }
-    Strict {
-        derived: derived,
-        joint: joint,
-    }
-}
-
-// What Π derives from a union of closed sets: with what it derives by itself, the union, if no joint rule adds to that.
-pub fn settle(table: &RuleTable, strict: Strict, s: LiteralSet) -> LiteralSet
-    requires { ⌜ Shaped (now table) ⌝ }
-    requires { ⌜ RulesOf (now table) (setOf (strict .joint)) ⌝ }
-    ensures { λ r. ⌜ ((p : Program) → Holds p (now (table .entry)) → StrictOf (p .rules) (setOf (strict .derived)) (setOf (strict .joint))
-        → Parted (p .rules) (setOf (strict .joint)) (setOf s) → setOf r ≡ closure (Π (p .rules)) (setOf s)) ⌝ }
-{
-    let t = s.union(strict.derived);
-    if any_adds(table, strict.joint.lo, 0, t) {
-        return close(table, 0, t);
-    }
-    if any_adds(table, strict.joint.hi, 64, t) {
-        return close(table, 0, t);
-    }
-    t
-}
-
-// Rule i is a joint rule. The body is read only if the rule is strict and its head is not derived.
-fn joins(table: &RuleTable, i: u64, derived: LiteralSet) -> bool
-    requires { ⌜ (i < 96) × (headAt (now table) i < 128) ⌝ }
-    ensures { λ r. ⌜ r ≡ joinsAt (now (table .entry)) i (setOf derived) ⌝ }
-{
-    (program::need(table, i) == 0) & !derived.has(program::head(table, i))
-        && (program::body(table, i).count() > 1)
-}
-
-// Some rule of the word, the first of which is rule `first`, adds its head.
-fn any_adds(table: &RuleTable, rules: u64, first: u64, s: LiteralSet) -> bool
-    requires { ⌜ Shaped (now table) ⌝ }
-    requires { ⌜ ((b : ℕ) → hasOf rules b ≡ true → first + b < ruleCount (now table)) ⌝ }
-    ensures { λ r. ⌜ (r ≡ false → (b : ℕ) → hasOf rules b ≡ true → addsAt (now (table .entry)) (first + b) (setOf s) ≡ false) ⌝ }
-{
-    let mut left = rules;
-    while left != 0 {
-        let bit = masks::lowest(left);
-        if adds(table, first + bit, s) {
-            return true;
-        }
-        left = masks::rest(left);
-    }
-    false
-}
-
-// Rule i adds its head to the set: it has its whole body and not its head. Nothing is gathered here: the body comes first, since
-// of most joint rules it is not there.
-fn adds(table: &RuleTable, i: u64, s: LiteralSet) -> bool
-    requires { ⌜ (i < 96) × (headAt (now table) i < 128) ⌝ }
-    ensures { λ r. ⌜ r ≡ addsAt (now (table .entry)) i (setOf s) ⌝ }
-{
-    program::body(table, i).within(s) && !s.has(program::head(table, i))
 }
 
 // A set, with how many rounds led to it.

@@ -60,7 +60,7 @@ fn complement(literal: u64) -> u64
 // Writes the trees of the arguments for one literal, from node number `at` on.
 fn trees(
     table: &RuleTable,
-    closures: &[u64],
+    rows: &[u64],
     exclusions: &[u64; 256],
     arguments: &[u32],
     count: usize,
@@ -73,9 +73,9 @@ fn trees(
     kinds: &mut [u8],
     marks: &mut [u8],
 ) -> Rooted
-    requires { ⌜ RootsReady (now table) (now closures) (now exclusions) (now arguments) count (now line) at limit
+    requires { ⌜ RootsReady (now table) (now rows) (now exclusions) (now arguments) count (now line) at limit
         (columns (now indexes) (now parents) (now kinds) (now marks)) ⌝ }
-    ensures { λ r. ⌜ ((w : Prepared (now (table .entry)) (now (closures .entry)) (now (exclusions .entry)) (now (arguments .entry)) count)
+    ensures { λ r. ⌜ ((w : Prepared (now (table .entry)) (now (rows .entry)) (now (exclusions .entry)) (now (arguments .entry)) count)
         → TreesBuilt (testsIn w) literal at limit (r .next) (r .undefeated)
         (columns (now (indexes .entry)) (now (parents .entry)) (now (kinds .entry)) (now (marks .entry)))
         (columns (now (indexes .exit)) (now (parents .exit)) (now (kinds .exit)) (now (marks .exit)))) ⌝ }
@@ -93,7 +93,7 @@ fn trees(
         }
         let end = supporter(
             table,
-            closures,
+            rows,
             exclusions,
             arguments,
             count,
@@ -126,7 +126,7 @@ fn trees(
 // Writes the forest of a literal. `nodes` is its number of nodes, or one past the limit.
 pub fn forest(
     table: &RuleTable,
-    closures: &[u64],
+    rows: &[u64],
     exclusions: &[u64; 256],
     arguments: &[u32],
     count: usize,
@@ -138,17 +138,17 @@ pub fn forest(
     kinds: &mut [u8],
     marks: &mut [u8],
 ) -> Grown
-    requires { ⌜ RootsReady (now table) (now closures) (now exclusions) (now arguments) count (now line) 0 limit
+    requires { ⌜ RootsReady (now table) (now rows) (now exclusions) (now arguments) count (now line) 0 limit
         (columns (now indexes) (now parents) (now kinds) (now marks)) ⌝ }
     requires { ⌜ literal < 128 ⌝ }
-    ensures { λ r. ⌜ ((w : Prepared (now (table .entry)) (now (closures .entry)) (now (exclusions .entry)) (now (arguments .entry)) count)
+    ensures { λ r. ⌜ ((w : Prepared (now (table .entry)) (now (rows .entry)) (now (exclusions .entry)) (now (arguments .entry)) count)
         → ForestBuilt (testsIn w) literal limit (r .nodes) (r .won) (r .lost)
         (columns (now (indexes .entry)) (now (parents .entry)) (now (kinds .entry)) (now (marks .entry)))
         (columns (now (indexes .exit)) (now (parents .exit)) (now (kinds .exit)) (now (marks .exit)))) ⌝ }
 {
     let first = trees(
         table,
-        closures,
+        rows,
         exclusions,
         arguments,
         count,
@@ -171,7 +171,7 @@ pub fn forest(
     }
     let second = trees(
         table,
-        closures,
+        rows,
         exclusions,
         arguments,
         count,

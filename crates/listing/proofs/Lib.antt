@@ -1,6 +1,3 @@
--- What is new in a mask, and the list that is made of it.
-pub mod Unions
-pub mod FreshSets
+-- Lists of numbers that pass a test, and how the list of the arguments is left.
 pub mod Picks
-pub mod Readings
-mod Listings
+pub mod Listings

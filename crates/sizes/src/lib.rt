@@ -1,64 +1,135 @@
-// The list with a closure table of its own, in one of three sizes: a program with few defeasible rules neither clears nor
-// reserves a megabyte.
+// The list with a table of rows of its own, in one of four sizes: a program whose rows are short neither clears nor reserves a
+// megabyte.
 ghost use mathlib.Core.Path.{_≡_};
-ghost use Prim.Native.Nat.{_≤_};
+ghost use Prim.Native.Nat.{_+_, _^_, _<_};
+ghost use lib.ListN.{length};
+ghost use Rattle.literals.specs.inside.Words.{setOf};
 ghost use Rattle.program.specs.Program.{Program};
 ghost use Rattle.program.specs.Limits.{Limits};
-ghost use Rattle.program.specs.inside.Table.{bitCount, Holds};
+ghost use Rattle.program.specs.inside.Table.{Holds, Shaped};
 ghost use Rattle.argument.specs.List.{argumentList};
-ghost use Rattle.argument.specs.inside.Closures.{Numbered};
-ghost use Rattle.listing.specs.inside.Listing.{listed, withList, Lists};
+ghost use Rattle.listing.specs.inside.Listing.{listed, withList};
+ghost use Rattle.rows.specs.Switched.{NeedsOne};
+ghost use Rattle.closing.specs.inside.Plan.{Planned};
+ghost use Rattle.sizes.specs.inside.Lists.{ListsPlanned};
+use closing::Ground;
 use listing::Listed;
 use program::RuleTable;
 
 // Writes the argument list of the program that the table holds.
 pub fn list(table: &RuleTable, arguments: &mut [u32]) -> Listed
-    requires { ⌜ Numbered (now table) ⌝ }
+    requires { ⌜ (Shaped (now table)) × (NeedsOne (now table)) ⌝ }
     ensures result { λ r. ⌜ ((p : Program) → Limits p → Holds p (now (table .entry))
         → r ≡ listed (argumentList (p .rules)) (now (arguments .entry))) ⌝ }
     ensures written { λ _. ⌜ ((p : Program) → Limits p → Holds p (now (table .entry))
         → now (arguments .exit) ≡ withList (argumentList (p .rules)) (now (arguments .entry))) ⌝ }
 {
-    let bits = program::bit_count(table);
-    if bits <= 8 {
-        return small(table, arguments);
+    let mut live = [0u64; 419];
+    let mut keep = [0u64; 128];
+    let mut base = [0u64; 128];
+    let plan = closing::plan(table, &mut live, &mut keep, &mut base);
+    let last = plan.end + plan.span;
+    if last < 512 {
+        return small(&live, plan, &keep, &base, arguments);
     }
-    if bits <= 12 {
-        return middle(table, arguments);
+    if last < 2304 {
+        return middle(&live, plan, &keep, &base, arguments);
     }
-    large(table, arguments, bits)
+    if last < 8464 {
+        return large(&live, plan, &keep, &base, arguments, last);
+    }
+    huge(&live, plan, &keep, &base, arguments, last)
 }
 
-fn small(table: &RuleTable, arguments: &mut [u32]) -> Listed
-    requires { ⌜ Numbered (now table) ⌝ }
-    requires { ⌜ bitCount (now table) ≤ 8 ⌝ }
-    ensures { λ r. ⌜ Lists (now (table .entry)) (now (arguments .entry)) (now (arguments .exit)) r ⌝ }
+fn small(
+    live: &RuleTable,
+    plan: Ground,
+    keep: &[u64],
+    base: &[u64],
+    arguments: &mut [u32],
+) -> Listed
+    requires { ⌜ Planned (now live) (now keep) (now base) (setOf (plan .derived)) (setOf (plan .literals)) (setOf (plan .pairs)) (plan .end) (plan .span) ⌝ }
+    requires { ⌜ plan .end + plan .span < 512 ⌝ }
+    ensures { λ r. ⌜ ListsPlanned (now (live .entry)) (setOf (plan .derived)) (setOf (plan .literals)) (now (arguments .entry)) (now (arguments .exit)) r ⌝ }
 {
-    let mut closures = [0u64; 512];
-    listing::list(table, &mut closures, arguments)
+    let mut rows = [0u64; 512];
+    list_rows(live, plan, keep, base, &mut rows, arguments)
 }
 
-fn middle(table: &RuleTable, arguments: &mut [u32]) -> Listed
-    requires { ⌜ Numbered (now table) ⌝ }
-    requires { ⌜ bitCount (now table) ≤ 12 ⌝ }
-    ensures { λ r. ⌜ Lists (now (table .entry)) (now (arguments .entry)) (now (arguments .exit)) r ⌝ }
+fn middle(
+    live: &RuleTable,
+    plan: Ground,
+    keep: &[u64],
+    base: &[u64],
+    arguments: &mut [u32],
+) -> Listed
+    requires { ⌜ Planned (now live) (now keep) (now base) (setOf (plan .derived)) (setOf (plan .literals)) (setOf (plan .pairs)) (plan .end) (plan .span) ⌝ }
+    requires { ⌜ plan .end + plan .span < 2304 ⌝ }
+    ensures { λ r. ⌜ ListsPlanned (now (live .entry)) (setOf (plan .derived)) (setOf (plan .literals)) (now (arguments .entry)) (now (arguments .exit)) r ⌝ }
 {
-    let mut closures = [0u64; 8192];
-    listing::list(table, &mut closures, arguments)
+    let mut rows = [0u64; 2304];
+    list_rows(live, plan, keep, base, &mut rows, arguments)
 }
 
 // The branch is for the compiler, and no call takes it: a function that calls itself is not merged into its caller, whose
-// frame would otherwise have this table's megabyte too.
-fn large(table: &RuleTable, arguments: &mut [u32], bits: u64) -> Listed
-    requires { ⌜ Numbered (now table) ⌝ }
-    ensures { λ r. ⌜ Lists (now (table .entry)) (now (arguments .entry)) (now (arguments .exit)) r ⌝ }
+// frame would otherwise have this table too.
+fn large(
+    live: &RuleTable,
+    plan: Ground,
+    keep: &[u64],
+    base: &[u64],
+    arguments: &mut [u32],
+    last: u64,
+) -> Listed
+    requires { ⌜ Planned (now live) (now keep) (now base) (setOf (plan .derived)) (setOf (plan .literals)) (setOf (plan .pairs)) (plan .end) (plan .span) ⌝ }
+    requires { ⌜ plan .end + plan .span < 8464 ⌝ }
+    ensures { λ r. ⌜ ListsPlanned (now (live .entry)) (setOf (plan .derived)) (setOf (plan .literals)) (now (arguments .entry)) (now (arguments .exit)) r ⌝ }
 {
-    if 16 < bits {
-        return match large(table, arguments, bits - 1) {
-            Listed::Over => large(table, arguments, bits - 2),
+    if 8464 < last {
+        return match large(live, plan, keep, base, arguments, last - 1) {
+            Listed::Over => large(live, plan, keep, base, arguments, last - 2),
             Listed::Count(count) => Listed::Count(count),
         };
     }
-    let mut closures = [0u64; 131072];
-    listing::list(table, &mut closures, arguments)
+    let mut rows = [0u64; 8464];
+    list_rows(live, plan, keep, base, &mut rows, arguments)
+}
+
+// The greatest size, which no table goes past.
+fn huge(
+    live: &RuleTable,
+    plan: Ground,
+    keep: &[u64],
+    base: &[u64],
+    arguments: &mut [u32],
+    last: u64,
+) -> Listed
+    requires { ⌜ Planned (now live) (now keep) (now base) (setOf (plan .derived)) (setOf (plan .literals)) (setOf (plan .pairs)) (plan .end) (plan .span) ⌝ }
+    ensures { λ r. ⌜ ListsPlanned (now (live .entry)) (setOf (plan .derived)) (setOf (plan .literals)) (now (arguments .entry)) (now (arguments .exit)) r ⌝ }
+{
+    if 133120 < last {
+        return match huge(live, plan, keep, base, arguments, last - 1) {
+            Listed::Over => huge(live, plan, keep, base, arguments, last - 2),
+            Listed::Count(count) => Listed::Count(count),
+        };
+    }
+    let mut rows = [0u64; 133120];
+    list_rows(live, plan, keep, base, &mut rows, arguments)
+}
+
+// Fills the table of rows and writes the list.
+fn list_rows(
+    live: &RuleTable,
+    plan: Ground,
+    keep: &[u64],
+    base: &[u64],
+    rows: &mut [u64],
+    arguments: &mut [u32],
+) -> Listed
+    requires { ⌜ Planned (now live) (now keep) (now base) (setOf (plan .derived)) (setOf (plan .literals)) (setOf (plan .pairs)) (plan .end) (plan .span) ⌝ }
+    requires { ⌜ (plan .end + plan .span < length (now rows)) × (length (now rows) < 2 ^ 32) ⌝ }
+    ensures { λ r. ⌜ ListsPlanned (now (live .entry)) (setOf (plan .derived)) (setOf (plan .literals)) (now (arguments .entry)) (now (arguments .exit)) r ⌝ }
+{
+    closing::fill(live, plan, keep, base, rows);
+    collecting::list(rows, plan.derived.union(plan.literals), arguments)
 }

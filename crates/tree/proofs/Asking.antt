@@ -6,26 +6,25 @@ use Prim.Native.Nat.{ℕ, _+_, _-_, _*_, _^_, _<_}
 use lib.ListN.{length, getD, take}
 use lib.Dec.{eqb}
 use Rattle.lists.specs.Lists.{any}
-use Rattle.literals.specs.Sets.{union, within, clash}
-use Rattle.program.specs.Program.{defeasibles}
+use Rattle.literals.specs.Sets.{union, within}
 use Rattle.argument.specs.Argument.{maskOf}
 use Rattle.argument.specs.List.{argumentList}
-use Rattle.argument.specs.inside.Closures.{closureAt}
+use Rattle.closures.specs.inside.Table.{tells}
 use Rattle.defeat.specs.Tests.{kind}
 use Rattle.preference.specs.Preference.{preferredTest}
 use Rattle.defeat.specs.OfProgram.{testsOf}
 use Rattle.defeat.specs.inside.Exclusions.{Numbers}
-use Rattle.defeat.specs.inside.Steps.{attacksBy}
+use Rattle.defeat.specs.inside.Steps.{AttacksBy}
 use Rattle.defeat.proofs.Attacks.{kind-apart}
 use Rattle.tree.specs.Reply.{theirs, permit, replyKind, lastKind}
 use Rattle.tree.specs.inside.Steps.{lineOf, masksOf, Prepared, testsIn, Asked}
 use Rattle.tree.proofs.Line.{sides-within}
 use Rattle.tree.proofs.Steps.{line-last, listed-in}
-use Rattle.tree.proofs.Listings.{prepared-mask, prepared-entry, prepared-small}
-use Rattle.tree.proofs.Sides.{masks-below, side-concordant, reply-apart, reply-discordant, reply-used, reply-free}
+use Rattle.tree.proofs.Listings.{prepared-small}
+use Rattle.tree.proofs.Sides.{side-concordant, reply-apart, reply-discordant, reply-used, reply-free}
 
-module _ {table closures exclusions arguments : List ℕ} {count : ℕ} {line : List ℕ} {depth side last : ℕ}
-    (A : Asked table closures exclusions arguments count line depth side last) (j : ℕ) (inside : j < count) where
+module _ {table rows exclusions arguments : List ℕ} {count : ℕ} {line : List ℕ} {depth side last : ℕ}
+    (A : Asked table rows exclusions arguments count line depth side last) (j : ℕ) (inside : j < count) where
   -- the candidate, the line's last argument, and the line before it
   abbrev x : ℕ
   x = getD arguments j 0
@@ -37,7 +36,7 @@ module _ {table closures exclusions arguments : List ℕ} {count : ℕ} {line : 
   l = lineOf line (depth - 1)
 
   abbrev World : Type 0
-  World = Prepared table closures exclusions arguments count
+  World = Prepared table rows exclusions arguments count
 
   line-is : lineOf line depth ≡ y ∷ l
   line-is = line-last line depth (A .deep)
@@ -55,14 +54,6 @@ module _ {table closures exclusions arguments : List ℕ} {count : ℕ} {line : 
   side-in z (List·Memᴰ·head e) = subst (λ (v : ℕ). List·Memᴰ v (take count arguments)) (sym e) x-in
   side-in z (List·Memᴰ·tail i) = A .on-line z (rw line-is (sides-within (y ∷ l) .1 z i))
 
-  side-below : (w : World) → masksOf (x ∷ theirs (y ∷ l)) < 2 ^ defeasibles (w .program .rules)
-  side-below w =
-      masks-below (defeasibles (w .program .rules)) (x ∷ theirs (y ∷ l)) (λ z i. prepared-mask w z (side-in z i))
-
-  -- the masks of its side with its own have an entry in the closure table
-  pub asking-entry : (m : ℕ) → m ≡ maskOf x → (union side m < 65536) × (2 * union side m + 1 < length closures)
-  asking-entry m e = rw (e, side-is) (prepared-entry (A .prepared) (masksOf (x ∷ theirs (y ∷ l))) (side-below (A .prepared)))
-
   -- what the tests of attack and defeat ask
   pub asking-numbers : Numbers arguments count
   asking-numbers = record {
@@ -70,16 +61,11 @@ module _ {table closures exclusions arguments : List ℕ} {count : ℕ} {line : 
     small = λ i h. prepared-small (A .prepared) (getD arguments i 0) (listed-in arguments count i h (A .prepared .counted));
   }
 
-  asking-listed : (z : ℕ) → List·Memᴰ z (take count arguments) → (z < 2 ^ 23) × (2 * maskOf z + 1 < length closures)
-  asking-listed z i =
-      let w = A .prepared in
-      (prepared-small w z i, prepared-entry w (maskOf z) (prepared-mask w z i) .1)
+  pub asking-x : x < 2 ^ 23
+  asking-x = prepared-small (A .prepared) x x-in
 
-  pub asking-x : (x < 2 ^ 23) × (2 * maskOf x + 1 < length closures)
-  asking-x = asking-listed x x-in
-
-  pub asking-y : (y < 2 ^ 23) × (2 * maskOf y + 1 < length closures)
-  asking-y = asking-listed y y-in
+  pub asking-y : y < 2 ^ 23
+  asking-y = prepared-small (A .prepared) y y-in
 
   -- ---- the answers
 
@@ -87,20 +73,20 @@ module _ {table closures exclusions arguments : List ℕ} {count : ℕ} {line : 
     abbrev all : List ℕ
     all = argumentList (w .program .rules)
 
-    pub asking-apart : attacksBy exclusions closures x y ≡ false → 0 ≡ replyKind (testsIn w) (lineOf line depth) x
+    pub asking-apart : AttacksBy exclusions rows x y false → 0 ≡ replyKind (testsIn w) (lineOf line depth) x
     asking-apart e =
         rw line-is
         (sym (reply-apart (testsIn w) y x l
         (kind-apart (w .made) x y (rw (w .made .listed) at x-in) (rw (w .made .listed) at y-in) (preferredTest (w .program)) e)))
 
-    concordant-is : testsIn w .concordant (x ∷ theirs (y ∷ l)) ≡ not (clash (closureAt closures (union side (maskOf x))))
+    concordant-is : testsIn w .concordant (x ∷ theirs (y ∷ l)) ≡ not (tells rows 128 (union side (maskOf x)))
     concordant-is =
-        side-concordant (w .program) (preferredTest (w .program)) closures (x ∷ theirs (y ∷ l)) (w .made .filled) (side-below w)
-        ∙ ap (λ (m : ℕ). not (clash (closureAt closures m))) (sym side-is)
+        side-concordant (w .program) (preferredTest (w .program)) rows (x ∷ theirs (y ∷ l)) (w .made .told)
+        ∙ ap (λ (m : ℕ). not (tells rows 128 m)) (sym side-is)
 
-    module _ (m : ℕ) (m-is : m ≡ maskOf x) (clashes : Bool) (clashes-is : clashes ≡ clash (closureAt closures (union side m))) where
+    module _ (m : ℕ) (m-is : m ≡ maskOf x) (clashes : Bool) (clashes-is : clashes ≡ tells rows 128 (union side m)) where
       concordant-by : testsIn w .concordant (x ∷ theirs (y ∷ l)) ≡ not clashes
-      concordant-by = concordant-is ∙ ap (λ (k : ℕ). not (clash (closureAt closures (union side k)))) (sym m-is) ∙ ap not (sym clashes-is)
+      concordant-by = concordant-is ∙ ap (λ (k : ℕ). not (tells rows 128 (union side k))) (sym m-is) ∙ ap not (sym clashes-is)
 
       pub asking-discordant : clashes ≡ true → 0 ≡ replyKind (testsIn w) (lineOf line depth) x
       asking-discordant e = rw line-is (sym (reply-discordant (testsIn w) y x l (concordant-by ∙ ap not e)))

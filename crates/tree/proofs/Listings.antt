@@ -22,7 +22,7 @@ use Rattle.tree.proofs.Growing.{Listing}
 
 -- ---- the tables
 
-module _ {table closures exclusions arguments : List ℕ} {count : ℕ} (w : Prepared table closures exclusions arguments count) where
+module _ {table rows exclusions arguments : List ℕ} {count : ℕ} (w : Prepared table rows exclusions arguments count) where
   abbrev l : List ℕ
   l = argumentList (w .program .rules)
 
@@ -38,10 +38,6 @@ module _ {table closures exclusions arguments : List ℕ} {count : ℕ} (w : Pre
       let n : ℕ = 2 ^ defeasibles (w .program .rules) in
       let h = ascends-high l 0 (n * 128) x (list-ascends (w .program .rules)) (rw (w .made .listed) at i) in
       omega arith
-
-  -- such a mask has an entry in the closure table
-  pub prepared-entry : (m : ℕ) → m < 2 ^ defeasibles (w .program .rules) → (m < 65536) × (2 * m + 1 < length closures)
-  prepared-entry m h = (omega (arith, few), omega (arith, w .room .long))
 
   -- an argument's number fits
   pub prepared-small : (x : ℕ) → List·Memᴰ x (take count arguments) → x < 2 ^ 23

@@ -17,18 +17,18 @@ use Rattle.tree.proofs.Trees.{Rooting, rooting-start, rooting-end, root
 
 -- The arguments before `start` are done, the tables are t, `next` is the next free number. line₀ and t₀ are the tables at
 -- the beginning.
-pub record RootTurn (table closures exclusions arguments : List ℕ) (count h : ℕ) (line₀ : List ℕ) (at limit : ℕ) (t₀ : Columns)
+pub record RootTurn (table rows exclusions arguments : List ℕ) (count h : ℕ) (line₀ : List ℕ) (at limit : ℕ) (t₀ : Columns)
     (line : List ℕ) (t : Columns) (found : Bool) (next start : ℕ) : Type 0 where
-  pub ready : RootsReady table closures exclusions arguments count line₀ at limit t₀
+  pub ready : RootsReady table rows exclusions arguments count line₀ at limit t₀
   pub line-long : length line ≡ length line₀
   pub tables-long : Long t t₀
   pub high : next ≤ limit
   pub start-in : start ≤ count
-  pub rooting : (w : Prepared table closures exclusions arguments count) → Rooting (testsIn w) h at limit t₀ start next found t
+  pub rooting : (w : Prepared table rows exclusions arguments count) → Rooting (testsIn w) h at limit t₀ start next found t
 
-pub root-turn-start : {table closures exclusions arguments : List ℕ} {count : ℕ} (h : ℕ) {line : List ℕ} {at limit : ℕ} {t : Columns}
-    → RootsReady table closures exclusions arguments count line at limit t
-    → RootTurn table closures exclusions arguments count h line at limit t line t false at 0
+pub root-turn-start : {table rows exclusions arguments : List ℕ} {count : ℕ} (h : ℕ) {line : List ℕ} {at limit : ℕ} {t : Columns}
+    → RootsReady table rows exclusions arguments count line at limit t
+    → RootTurn table rows exclusions arguments count h line at limit t line t false at 0
 root-turn-start h {at = at} {limit = limit} {t = t} r = record {
   ready = r;
   line-long = refl;
@@ -38,12 +38,12 @@ root-turn-start h {at = at} {limit = limit} {t = t} r = record {
   rooting = λ w. rooting-start (testsIn w) (prepared-listing w) h at limit t (r .below);
 }
 
-module _ {table closures exclusions arguments : List ℕ} {count h : ℕ} {line₀ : List ℕ} {at limit : ℕ} {t₀ : Columns}
+module _ {table rows exclusions arguments : List ℕ} {count h : ℕ} {line₀ : List ℕ} {at limit : ℕ} {t₀ : Columns}
     {line : List ℕ} {t : Columns} {found : Bool} {next start : ℕ}
-    (T : RootTurn table closures exclusions arguments count h line₀ at limit t₀ line t found next start)
+    (T : RootTurn table rows exclusions arguments count h line₀ at limit t₀ line t found next start)
     {j : ℕ} (f : FirstFor h arguments count start j) where
   abbrev World : Type 0
-  World = Prepared table closures exclusions arguments count
+  World = Prepared table rows exclusions arguments count
 
   pub root-turn-end : count ≤ j → (w : World) → TreesBuilt (testsIn w) h at limit next found t₀ t
   root-turn-end le w = rooting-end (testsIn w) (prepared-listing w) h at limit t₀ (T .rooting w) f le
@@ -57,7 +57,7 @@ module _ {table closures exclusions arguments : List ℕ} {count h : ℕ} {line�
     root-turn-index = omega (arith, prepared-count (T .ready .prepared))
 
     -- a root's step: no line is before it, and its parent is its own number
-    pub root-ready : Ready table closures exclusions arguments count line 0 0 0 j next 0 next limit t
+    pub root-ready : Ready table rows exclusions arguments count line 0 0 0 j next 0 next limit t
     root-ready = record {
       prepared = T .ready .prepared;
       on-line = within-nil _;
@@ -91,7 +91,7 @@ module _ {table closures exclusions arguments : List ℕ} {count h : ℕ} {line�
 
       pub root-turn-step : (line′ : List ℕ) (found′ : Bool) {R : Type 0} → end ≤ limit → length line′ ≡ length line → Lengths after t R
           → found′ ≡ (found || eqb (getD (after .marks) next 0) 1)
-          → RootTurn table closures exclusions arguments count h line₀ at limit t₀ line′ after found′ end (j + 1)
+          → RootTurn table rows exclusions arguments count h line₀ at limit t₀ line′ after found′ end (j + 1)
       root-turn-step line′ found′ le nl lt e = record {
         ready = T .ready;
         line-long = nl ∙ T .line-long;
@@ -104,10 +104,10 @@ module _ {table closures exclusions arguments : List ℕ} {count h : ℕ} {line�
       }
 
 -- the same tables after some trees were written
-pub roots-moved : {table closures exclusions arguments : List ℕ} {count : ℕ} {line : List ℕ} {at limit : ℕ} {t : Columns}
-    → RootsReady table closures exclusions arguments count line at limit t → (line′ : List ℕ) (next : ℕ) (t′ : Columns)
+pub roots-moved : {table rows exclusions arguments : List ℕ} {count : ℕ} {line : List ℕ} {at limit : ℕ} {t : Columns}
+    → RootsReady table rows exclusions arguments count line at limit t → (line′ : List ℕ) (next : ℕ) (t′ : Columns)
     {R : Type 0} → next ≤ limit → length line′ ≡ length line → Lengths t′ t R
-    → RootsReady table closures exclusions arguments count line′ next limit t′
+    → RootsReady table rows exclusions arguments count line′ next limit t′
 roots-moved {limit = limit} {t = t} r line′ next t′ le n h = record {
   prepared = r .prepared;
   below = le;

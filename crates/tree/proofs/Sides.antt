@@ -15,7 +15,7 @@ use Rattle.program.specs.Program.{Rule, Program, Π-mask, defeasibles}
 use Rattle.derivation.specs.Closure.{contradictory}
 use Rattle.derivation.proofs.Choices.{Π-with-ext}
 use Rattle.argument.specs.Argument.{maskOf}
-use Rattle.argument.specs.inside.Closures.{closureAt, Filled}
+use Rattle.closures.specs.inside.Table.{tells, Tells}
 use Rattle.defeat.specs.Tests.{Tests, kind}
 use Rattle.defeat.specs.OfProgram.{inSome, Π-all, testsOf}
 use Rattle.tree.specs.Reply.{theirs, permit, unused, mayFollow, joins, replyKind, lastKind}
@@ -50,15 +50,13 @@ masks-below n (x ∷ l) h = members-below n (union (masksOf l) (maskOf x)) (λ b
     (has-bound (maskOf x) n b (h x (List·Memᴰ·head refl)))
     (or-cases (has (masksOf l) b) (has (maskOf x) b) (sym (has-union (masksOf l) (maskOf x) b) ∙ e)))
 
--- ---- the closure table says whether a side is concordant
+-- ---- the table of rows says whether a side is concordant
 
-pub side-concordant : (p : Program) (preferred : ℕ → ℕ → Bool) (closures l : List ℕ)
-    → Filled (p .rules) (2 ^ defeasibles (p .rules)) closures → masksOf l < 2 ^ defeasibles (p .rules)
-    → testsOf p preferred .concordant l ≡ not (clash (closureAt closures (masksOf l)))
+pub side-concordant : (p : Program) (preferred : ℕ → ℕ → Bool) (rows l : List ℕ) → Tells (p .rules) rows
+    → testsOf p preferred .concordant l ≡ not (tells rows 128 (masksOf l))
 unfolding testsOf
-side-concordant p preferred closures l filled h =
-    ap (λ (r : List Rule). not (contradictory r)) (sym (masks-all (p .rules) l))
-    ∙ ap not (sym (filled (masksOf l) h .clashing))
+side-concordant p preferred rows l told =
+    ap (λ (r : List Rule). not (contradictory r)) (sym (masks-all (p .rules) l)) ∙ ap not (sym (told .clashing (masksOf l)))
 
 -- ---- a candidate's number from the tests, in the order in which they are made
 

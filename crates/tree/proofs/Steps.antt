@@ -58,16 +58,16 @@ within-more : {l m : List ℕ} (x : ℕ) → List·Memᴰ x m → Within l m →
 within-more {l} {m} x i w y (List·Memᴰ·head e) = subst (λ (z : ℕ). List·Memᴰ z m) (sym e) i
 within-more {l} {m} x i w y (List·Memᴰ·tail j) = w y j
 
-module _ {table closures exclusions arguments : List ℕ} {count : ℕ} {before : List ℕ}
+module _ {table rows exclusions arguments : List ℕ} {count : ℕ} {before : List ℕ}
     {depth own other j parent kind at limit : ℕ} {tₑ : Columns}
-    (ready : Ready table closures exclusions arguments count before depth own other j parent kind at limit tₑ)
+    (ready : Ready table rows exclusions arguments count before depth own other j parent kind at limit tₑ)
     (line : List ℕ) (more : lineOf line (depth + 1) ≡ getD arguments j 0 ∷ lineOf before depth) where
   on-line-more : Within (lineOf line (depth + 1)) (take count arguments)
   on-line-more = rw more
       (within-more (getD arguments j 0) (listed-in arguments count j (ready .argument-in) (ready .prepared .counted)) (ready .on-line))
 
   -- what is asked of a candidate: its side is the other one
-  pub ready-asked : depth + 1 ≤ length line → Asked table closures exclusions arguments count line (depth + 1) other kind
+  pub ready-asked : depth + 1 ≤ length line → Asked table rows exclusions arguments count line (depth + 1) other kind
   ready-asked h = record {
     prepared = ready .prepared;
     on-line = on-line-more;
@@ -79,10 +79,10 @@ module _ {table closures exclusions arguments : List ℕ} {count : ℕ} {before 
 
   -- what a reply's step is asked: the sides change places
   pub ready-reply : (start i k next : ℕ) (t : Columns)
-      → ((w : Prepared table closures exclusions arguments count)
+      → ((w : Prepared table rows exclusions arguments count)
       → FirstReply (testsIn w) (lineOf line (depth + 1)) arguments count start i k)
       → i < count → at < next → next ≤ limit → limit ≤ length line → Hold limit t
-      → Ready table closures exclusions arguments count line (depth + 1) other (union own (maskOf (getD arguments j 0))) i at k next
+      → Ready table rows exclusions arguments count line (depth + 1) other (union own (maskOf (getD arguments j 0))) i at k next
       limit t
   ready-reply start i k next t first inside low high long hold = record {
     prepared = ready .prepared;

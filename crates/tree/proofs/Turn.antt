@@ -61,10 +61,10 @@ belowEntries t l at = preorder (indexIn (t .arguments)) (suc at) at (replies t l
 
 -- Argument x, number j of the list, stands on the line and in the tables, as line₀ and t₀. `joined` has its mask with those
 -- of its side. The candidates before `start` are done, the tables are t, `next` is the next free number.
-pub record Turn (table closures exclusions arguments : List ℕ) (count : ℕ) (line₀ : List ℕ)
+pub record Turn (table rows exclusions arguments : List ℕ) (count : ℕ) (line₀ : List ℕ)
     (depth own other j parent kind at limit : ℕ) (t₀ : Columns) (x joined : ℕ)
     (line : List ℕ) (t : Columns) (mark next start : ℕ) : Type 0 where
-  pub ready : Ready table closures exclusions arguments count line₀ depth own other j parent kind at limit t₀
+  pub ready : Ready table rows exclusions arguments count line₀ depth own other j parent kind at limit t₀
   pub argument-is : x ≡ getD arguments j 0
   pub joined-is : joined ≡ union own (maskOf x)
   pub room : at < limit
@@ -74,17 +74,17 @@ pub record Turn (table closures exclusions arguments : List ℕ) (count : ℕ) (
   pub low : at < next
   pub high : next ≤ limit
   pub start-in : start ≤ count
-  pub going : (w : Prepared table closures exclusions arguments count)
+  pub going : (w : Prepared table rows exclusions arguments count)
       → Going (testsIn w) (x ∷ lineOf line₀ depth) at limit t₀ start next mark t
 
 -- ---- a step begins
 
 -- the line up to the parent is as it was
-ready-moved : {table closures exclusions arguments : List ℕ} {count : ℕ} {line line′ : List ℕ}
+ready-moved : {table rows exclusions arguments : List ℕ} {count : ℕ} {line line′ : List ℕ}
     {depth own other j parent kind at limit : ℕ} {t t′ : Columns}
-    → Ready table closures exclusions arguments count line depth own other j parent kind at limit t
+    → Ready table rows exclusions arguments count line depth own other j parent kind at limit t
     → lineOf line′ depth ≡ lineOf line depth → length line′ ≡ length line → Long t′ t
-    → Ready table closures exclusions arguments count line′ depth own other j parent kind at limit t′
+    → Ready table rows exclusions arguments count line′ depth own other j parent kind at limit t′
 ready-moved {limit = limit} r e n h = record {
   prepared = r .prepared;
   on-line = rw e (r .on-line);
@@ -100,12 +100,12 @@ ready-moved {limit = limit} r e n h = record {
   tables-hold = hold-long limit h (r .tables-hold);
 }
 
-module _ {table closures exclusions arguments : List ℕ} {count : ℕ} {line : List ℕ}
+module _ {table rows exclusions arguments : List ℕ} {count : ℕ} {line : List ℕ}
     {depth own other j parent kind at limit : ℕ} {t : Columns}
-    (ready : Ready table closures exclusions arguments count line depth own other j parent kind at limit t) where
+    (ready : Ready table rows exclusions arguments count line depth own other j parent kind at limit t) where
   -- no number is left
   pub turn-none : limit ≤ at
-      → Leaves table closures exclusions arguments count line line depth j parent kind at limit (limit + 1) t t
+      → Leaves table rows exclusions arguments count line line depth j parent kind at limit (limit + 1) t t
   turn-none h = (
     λ w. tree-none (testsIn w) (prepared-listing w) (lineOf line depth) j parent kind at limit (ready .argument-in) t h,
     refl,
@@ -151,7 +151,7 @@ module _ {table closures exclusions arguments : List ℕ} {count : ℕ} {line : 
           cc
 
       pub turn-start : (joined : ℕ) → x ≡ getD arguments j 0 → joined ≡ union own (maskOf x)
-          → Turn table closures exclusions arguments count line′ depth own other j parent kind at limit t′ x joined line′ t′ 1 (at + 1) 0
+          → Turn table rows exclusions arguments count line′ depth own other j parent kind at limit t′ x joined line′ t′ 1 (at + 1) 0
       turn-start joined ex ej = record {
         ready = ready-moved ready entered-line (ap length (e .line-is) ∙ length-set line depth x) entered-long;
         argument-is = ex;
@@ -172,15 +172,15 @@ module _ {table closures exclusions arguments : List ℕ} {count : ℕ} {line : 
 -- ---- a step goes on
 
 -- the first candidate that is a reply from `start` on, as a search for it leaves it
-abbrev pub Found : (table closures exclusions arguments : List ℕ) (count : ℕ) (l : List ℕ) (start i k : ℕ) → Type 0
-Found table closures exclusions arguments count l start i k =
+abbrev pub Found : (table rows exclusions arguments : List ℕ) (count : ℕ) (l : List ℕ) (start i k : ℕ) → Type 0
+Found table rows exclusions arguments count l start i k =
     ((start ≤ i) × (i ≤ count))
-    × ((w : Prepared table closures exclusions arguments count) → FirstReply (testsIn w) l arguments count start i k)
+    × ((w : Prepared table rows exclusions arguments count) → FirstReply (testsIn w) l arguments count start i k)
 
-module _ {table closures exclusions arguments : List ℕ} {count : ℕ} {line₀ : List ℕ}
+module _ {table rows exclusions arguments : List ℕ} {count : ℕ} {line₀ : List ℕ}
     {depth own other j parent kind at limit : ℕ} {t₀ : Columns} {x joined : ℕ}
     {line : List ℕ} {t : Columns} {mark next start : ℕ}
-    (T : Turn table closures exclusions arguments count line₀ depth own other j parent kind at limit t₀ x joined line t mark next start)
+    (T : Turn table rows exclusions arguments count line₀ depth own other j parent kind at limit t₀ x joined line t mark next start)
   where
     abbrev now-line : lineOf line (depth + 1) ≡ getD arguments j 0 ∷ lineOf line₀ depth
     now-line = T .line-is ∙ ap (λ (y : ℕ). y ∷ lineOf line₀ depth) (T .argument-is)
@@ -192,7 +192,7 @@ module _ {table closures exclusions arguments : List ℕ} {count : ℕ} {line₀
     turn-holds : Hold limit t
     turn-holds = hold-long limit (T .tables-long) (T .ready .tables-hold)
 
-    pub turn-asked : Asked table closures exclusions arguments count line (depth + 1) other kind × (start ≤ count)
+    pub turn-asked : Asked table rows exclusions arguments count line (depth + 1) other kind × (start ≤ count)
     turn-asked =
         let d = T .ready .deep in
         let h = T .ready .line-holds in
@@ -202,13 +202,13 @@ module _ {table closures exclusions arguments : List ℕ} {count : ℕ} {line₀
     pub turn-marks : at < length (t .marks)
     turn-marks = omega (arith, T .room, turn-holds .marks-hold)
 
-    module _ {i k : ℕ} (found : Found table closures exclusions arguments count (lineOf line (depth + 1)) start i k) where
-      first-in : (w : Prepared table closures exclusions arguments count)
+    module _ {i k : ℕ} (found : Found table rows exclusions arguments count (lineOf line (depth + 1)) start i k) where
+      first-in : (w : Prepared table rows exclusions arguments count)
           → FirstReply (testsIn w) (x ∷ lineOf line₀ depth) arguments count start i k
       first-in w = rw (T .line-is) at (found .1 w)
 
       -- no candidate is left
-      turn-last : count ≤ i → (w : Prepared table closures exclusions arguments count)
+      turn-last : count ≤ i → (w : Prepared table rows exclusions arguments count)
           → Built (belowEntries (testsIn w) (x ∷ lineOf line₀ depth) at) (suc at) limit next t₀ t
           × (mark ≡ markOf (allDefeated (replies (testsIn w) (x ∷ lineOf line₀ depth))))
       turn-last h w =
@@ -219,7 +219,7 @@ module _ {table closures exclusions arguments : List ℕ} {count : ℕ} {line₀
         -- the other side's step is asked less: m is what this one has left
         pub turn-ready : {m : ℕ} → limit - at ≡ m
             → (limit - next < m)
-            × Ready table closures exclusions arguments count line (depth + 1) other joined i at k next limit t
+            × Ready table rows exclusions arguments count line (depth + 1) other joined i at k next limit t
         turn-ready left =
             let e : joined ≡ union own (maskOf (getD arguments j 0)) = T .joined-is ∙ ap (λ (y : ℕ). union own (maskOf y)) (T .argument-is) in (
               omega (arith, T .room, T .low, T .high),
@@ -238,13 +238,13 @@ module _ {table closures exclusions arguments : List ℕ} {count : ℕ} {line₀
 
         -- the other side's step on it is done
         module _ {end : ℕ} (line′ : List ℕ) {t′ : Columns}
-            (below : Leaves table closures exclusions arguments count line line′ (depth + 1) i at k next limit end t t′) where
-          built-in : (w : Prepared table closures exclusions arguments count)
+            (below : Leaves table rows exclusions arguments count line line′ (depth + 1) i at k next limit end t t′) where
+          built-in : (w : Prepared table rows exclusions arguments count)
               → Built (treeEntries (testsIn w) (x ∷ lineOf line₀ depth) (getD arguments i 0) k next at) next limit end t t′
           built-in w = rw (T .line-is) at (below .0 w)
 
           -- a reply's tree does not fit
-          turn-full : limit < end → (w : Prepared table closures exclusions arguments count)
+          turn-full : limit < end → (w : Prepared table rows exclusions arguments count)
               → Built (belowEntries (testsIn w) (x ∷ lineOf line₀ depth) at) (suc at) limit end t₀ t′
           turn-full h w =
               going-over (testsIn w) (prepared-listing w) (x ∷ lineOf line₀ depth) at limit t₀ (T .going w) (found .0 .0) (found .0 .1)
@@ -262,7 +262,7 @@ module _ {table closures exclusions arguments : List ℕ} {count : ℕ} {line₀
 
           pub turn-step : {mark′ : ℕ} {R : Type 0} → end ≤ limit → length line′ ≡ length line → Lengths t′ t R
               → mark′ ≡ settledBy mark (getD (t′ .marks) next 0)
-              → Turn table closures exclusions arguments count line₀ depth own other j parent kind at limit t₀ x joined line′ t′
+              → Turn table rows exclusions arguments count line₀ depth own other j parent kind at limit t₀ x joined line′ t′
               mark′ end (i + 1)
           turn-step h nl lengths em = record {
             ready = T .ready;
@@ -282,21 +282,21 @@ module _ {table closures exclusions arguments : List ℕ} {count : ℕ} {line₀
 
 -- ---- a step ends: what is known of the trees below is said of the whole
 
-module _ {table closures exclusions arguments : List ℕ} {count : ℕ} {line : List ℕ}
+module _ {table rows exclusions arguments : List ℕ} {count : ℕ} {line : List ℕ}
     {depth own other j parent kind at limit : ℕ} {t : Columns}
-    (ready : Ready table closures exclusions arguments count line depth own other j parent kind at limit t) (room : at < limit)
+    (ready : Ready table rows exclusions arguments count line depth own other j parent kind at limit t) (room : at < limit)
     {x : ℕ} {line₀ indexes₀ parents₀ kinds₀ : List ℕ}
     (e : Entered depth x j parent kind at line (t .arguments) (t .parents) (t .kinds) line₀ indexes₀ parents₀ kinds₀)
     {joined : ℕ} {line₁ : List ℕ} {t₁ : Columns} {mark next start : ℕ}
-    (T : Turn table closures exclusions arguments count line₀ depth own other j parent kind at limit
+    (T : Turn table rows exclusions arguments count line₀ depth own other j parent kind at limit
     (columns indexes₀ parents₀ kinds₀ (t .marks)) x joined line₁ t₁ mark next start)
-    {i k : ℕ} (found : Found table closures exclusions arguments count (lineOf line₁ (depth + 1)) start i k) where
+    {i k : ℕ} (found : Found table rows exclusions arguments count (lineOf line₁ (depth + 1)) start i k) where
   same-line : x ∷ lineOf line₀ depth ≡ getD arguments j 0 ∷ lineOf line depth
   same-line = let a = entered-line ready room x e in let b = T .argument-is in cc
 
   -- no candidate is left, and the node is marked
   pub turn-end : count ≤ i
-      → Leaves table closures exclusions arguments count line line₁ depth j parent kind at limit next t (closed at mark t₁)
+      → Leaves table rows exclusions arguments count line line₁ depth j parent kind at limit next t (closed at mark t₁)
   turn-end h = (
     λ w.
         let b = turn-last T found h w in
@@ -307,8 +307,8 @@ module _ {table closures exclusions arguments : List ℕ} {count : ℕ} {line : 
 
   -- a reply's tree does not fit
   pub turn-over : i < count → {end : ℕ} (line′ : List ℕ) {t′ : Columns}
-      → Leaves table closures exclusions arguments count line₁ line′ (depth + 1) i at k next limit end t₁ t′ → limit < end
-      → Leaves table closures exclusions arguments count line line′ depth j parent kind at limit end t t′
+      → Leaves table rows exclusions arguments count line₁ line′ (depth + 1) i at k next limit end t₁ t′ → limit < end
+      → Leaves table rows exclusions arguments count line line′ depth j parent kind at limit end t t′
   turn-over inside {end} line′ {t′} below h = (
     λ w. tree-over (testsIn w) (prepared-listing w) (lineOf line depth) j parent kind at limit (ready .argument-in) t end t′
         (rw (same-line, entered-tables ready room x e) at (turn-full T found inside line′ below h w)) room h,

@@ -9,7 +9,6 @@ ghost use Rattle.literals.specs.Sets.{within};
 ghost use Rattle.argument.specs.Argument.{maskOf};
 ghost use Rattle.tree.specs.Reply.{permit, replyKind};
 ghost use Rattle.tree.specs.inside.Steps.{lineOf, Prepared, testsIn, Asked, FirstReply};
-use argument::closures;
 use argument::numbers::mask_of;
 use defeat::defeaters;
 use literals::masks;
@@ -51,7 +50,7 @@ fn follow(last: u8, kind: u8) -> u8
 // there, which is the cheapest to see, so that test comes first.
 pub fn reply_kind(
     table: &RuleTable,
-    closures: &[u64],
+    rows: &[u64],
     exclusions: &[u64; 256],
     arguments: &[u32],
     count: usize,
@@ -61,18 +60,18 @@ pub fn reply_kind(
     last: u8,
     j: usize,
 ) -> u8
-    requires { ⌜ Asked (now table) (now closures) (now exclusions) (now arguments) count (now line) depth side last ⌝ }
+    requires { ⌜ Asked (now table) (now rows) (now exclusions) (now arguments) count (now line) depth side last ⌝ }
     requires { ⌜ j < count ⌝ }
-    ensures { λ r. ⌜ ((w : Prepared (now (table .entry)) (now (closures .entry)) (now (exclusions .entry)) (now (arguments .entry)) count)
+    ensures { λ r. ⌜ ((w : Prepared (now (table .entry)) (now (rows .entry)) (now (exclusions .entry)) (now (arguments .entry)) count)
         → r ≡ replyKind (testsIn w) (lineOf (now (line .entry)) depth) (getD (now (arguments .entry)) j 0)) ⌝ }
 {
     let x = arguments[j];
     let y = line[depth - 1];
-    if !defeaters::attacks(closures, exclusions, x, y) {
+    if !defeaters::attacks(rows, exclusions, x, y) {
         return 0;
     }
     let mask = mask_of(x);
-    if closures::contradictory(closures, side | mask) {
+    if closures::contradictory(rows, side | mask) {
         return 0;
     }
     if used(line, depth, mask) {
@@ -85,7 +84,7 @@ pub fn reply_kind(
 // The first candidate from `start` on that is a reply to the line, or the list's end.
 pub fn first_reply(
     table: &RuleTable,
-    closures: &[u64],
+    rows: &[u64],
     exclusions: &[u64; 256],
     arguments: &[u32],
     count: usize,
@@ -95,17 +94,17 @@ pub fn first_reply(
     last: u8,
     start: usize,
 ) -> Reply
-    requires { ⌜ Asked (now table) (now closures) (now exclusions) (now arguments) count (now line) depth side last ⌝ }
+    requires { ⌜ Asked (now table) (now rows) (now exclusions) (now arguments) count (now line) depth side last ⌝ }
     requires { ⌜ start ≤ count ⌝ }
     ensures { λ r. ⌜ (start ≤ r .index) × (r .index ≤ count) ⌝ }
-    ensures { λ r. ⌜ ((w : Prepared (now (table .entry)) (now (closures .entry)) (now (exclusions .entry)) (now (arguments .entry)) count)
+    ensures { λ r. ⌜ ((w : Prepared (now (table .entry)) (now (rows .entry)) (now (exclusions .entry)) (now (arguments .entry)) count)
         → FirstReply (testsIn w) (lineOf (now (line .entry)) depth) (now (arguments .entry)) count start (r .index) (r .kind)) ⌝ }
 {
     let mut j = start;
     while j < count {
         let kind = reply_kind(
             table,
-            closures,
+            rows,
             exclusions,
             arguments,
             count,

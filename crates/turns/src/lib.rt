@@ -14,7 +14,7 @@ use tree::nodes::settled;
 // the other side.
 pub fn supporter(
     table: &RuleTable,
-    closures: &[u64],
+    rows: &[u64],
     exclusions: &[u64; 256],
     arguments: &[u32],
     count: usize,
@@ -32,9 +32,9 @@ pub fn supporter(
     kinds: &mut [u8],
     marks: &mut [u8],
 ) -> usize
-    requires { ⌜ Ready (now table) (now closures) (now exclusions) (now arguments) count (now line) depth own other j
+    requires { ⌜ Ready (now table) (now rows) (now exclusions) (now arguments) count (now line) depth own other j
         parent kind at limit (columns (now indexes) (now parents) (now kinds) (now marks)) ⌝ }
-    ensures { λ r. ⌜ Leaves (now (table .entry)) (now (closures .entry)) (now (exclusions .entry)) (now (arguments .entry)) count
+    ensures { λ r. ⌜ Leaves (now (table .entry)) (now (rows .entry)) (now (exclusions .entry)) (now (arguments .entry)) count
         (now (line .entry)) (now (line .exit)) depth j parent kind at limit r
         (columns (now (indexes .entry)) (now (parents .entry)) (now (kinds .entry)) (now (marks .entry)))
         (columns (now (indexes .exit)) (now (parents .exit)) (now (kinds .exit)) (now (marks .exit))) ⌝ }
@@ -51,7 +51,7 @@ pub fn supporter(
     loop {
         let objection = first_reply(
             table,
-            closures,
+            rows,
             exclusions,
             arguments,
             count,
@@ -67,7 +67,7 @@ pub fn supporter(
         }
         let end = objector(
             table,
-            closures,
+            rows,
             exclusions,
             arguments,
             count,
@@ -97,7 +97,7 @@ pub fn supporter(
 // The same for an objector's argument.
 pub fn objector(
     table: &RuleTable,
-    closures: &[u64],
+    rows: &[u64],
     exclusions: &[u64; 256],
     arguments: &[u32],
     count: usize,
@@ -115,9 +115,9 @@ pub fn objector(
     kinds: &mut [u8],
     marks: &mut [u8],
 ) -> usize
-    requires { ⌜ Ready (now table) (now closures) (now exclusions) (now arguments) count (now line) depth own other j
+    requires { ⌜ Ready (now table) (now rows) (now exclusions) (now arguments) count (now line) depth own other j
         parent kind at limit (columns (now indexes) (now parents) (now kinds) (now marks)) ⌝ }
-    ensures { λ r. ⌜ Leaves (now (table .entry)) (now (closures .entry)) (now (exclusions .entry)) (now (arguments .entry)) count
+    ensures { λ r. ⌜ Leaves (now (table .entry)) (now (rows .entry)) (now (exclusions .entry)) (now (arguments .entry)) count
         (now (line .entry)) (now (line .exit)) depth j parent kind at limit r
         (columns (now (indexes .entry)) (now (parents .entry)) (now (kinds .entry)) (now (marks .entry)))
         (columns (now (indexes .exit)) (now (parents .exit)) (now (kinds .exit)) (now (marks .exit))) ⌝ }
@@ -134,7 +134,7 @@ pub fn objector(
     loop {
         let support = first_reply(
             table,
-            closures,
+            rows,
             exclusions,
             arguments,
             count,
@@ -150,7 +150,7 @@ pub fn objector(
         }
         let end = supporter(
             table,
-            closures,
+            rows,
             exclusions,
             arguments,
             count,

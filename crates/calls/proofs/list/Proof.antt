@@ -3,9 +3,10 @@ use mathlib.Core.Path.{_≡_, sym, _∙_}
 use mathlib.Core.List.{List}
 use Prim.Native.Nat.{ℕ}
 use Rattle.program.specs.Limits.{Limits}
-use Rattle.program.specs.inside.Table.{Holds}
-use Rattle.argument.specs.inside.Closures.{Numbered}
-use Rattle.argument.proofs.Tables.{limits-numbered}
+use Rattle.program.specs.inside.Table.{Shaped, Holds}
+use Rattle.rows.specs.Switched.{NeedsOne}
+use Rattle.derivation.proofs.Tables.{limits-shaped}
+use Rattle.closing.proofs.Masks.{limits-needs}
 use Rattle.layout.specs.declared.Verdict.the-variants.{Accepted}
 use Rattle.layout.specs.Reading.{programIn}
 use Rattle.image.proofs.Accepted.{accepted-limits}
@@ -19,8 +20,8 @@ use Rattle.calls.proofs.list.Tie as tie
 within-limits : (s : List ℕ) → checkImage s ≡ Accepted → Limits (programIn s)
 within-limits s e = accepted-limits s (check-accepted s e .0)
 
-numbered : (s t : List ℕ) → checkImage s ≡ Accepted → (checkImage s ≡ Accepted → Holds (programIn s) t) → Numbered t
-numbered s t e h = limits-numbered (programIn s) t (h e) (within-limits s e)
+needed : (s t : List ℕ) → checkImage s ≡ Accepted → (checkImage s ≡ Accepted → Holds (programIn s) t) → Shaped t × NeedsOne t
+needed s t e h = (limits-shaped (programIn s) t (h e) (within-limits s e), limits-needs (programIn s) t (h e) (within-limits s e))
 
 load-requires : tie.Need-load-requires
 load-requires c κs = search needs
@@ -35,7 +36,7 @@ enum-told : tie.Need-enum-told
 enum-told c = search needs
 
 list-requires : tie.Need-list-requires
-list-requires c κs = numbered (c .before .before .before .before .before .before .before .before .args .image .now) _ (sym (c .before .before .before .before .load .ensures .0) ∙ c .before .before .enum-told .given .1) (c .before .before .before .before .load .ensures .1)
+list-requires c κs = needed (c .before .before .before .before .before .before .before .before .args .image .now) _ (sym (c .before .before .before .before .load .ensures .0) ∙ c .before .before .enum-told .given .1) (c .before .before .before .before .load .ensures .1)
 
 enum-known-count : tie.Need-enum-known-count
 enum-known-count c = search needs

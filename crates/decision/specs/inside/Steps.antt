@@ -2,16 +2,17 @@
 use mathlib.Core.Path.{_≡_}
 use mathlib.Core.Bool.{Bool}
 use mathlib.Core.List.{List, _∷_}
-use Prim.Native.Nat.{ℕ, _/_, _^_, _≤_, _<_}
+use Prim.Native.Nat.{ℕ, _/_, _≤_, _<_}
 use lib.Dec.{eqb, leb}
 use lib.ListN.{length, take}
 use Rattle.lists.specs.Lists.{any, choose}
-use Rattle.program.specs.Program.{Rule, Program, defeasibles}
+use Rattle.program.specs.Program.{Rule, Program}
 use Rattle.program.specs.Limits.{Limits}
 use Rattle.program.specs.inside.Table.{Holds}
 use Rattle.argument.specs.List.{argumentList}
 use Rattle.listing.specs.inside.Listing.{withList}
-use Rattle.argument.specs.inside.Closures.{Filled, Room}
+use Rattle.closures.specs.inside.Table.{Laid, Tells}
+use Rattle.closing.specs.inside.Plan.{Planned, PlanOf}
 use Rattle.tree.specs.inside.Tables.{Columns, Hold}
 use Rattle.answer.specs.declared.Answer.{Answer}
 use Rattle.answer.specs.declared.Answer.the-variants.{Refused}
@@ -35,16 +36,21 @@ pub record Asked (table : List ℕ) (h budget : ℕ) (t : Columns) : Type 0 wher
   pub budget-below : budget ≤ 4096
   pub tables-hold : Hold budget t
 
--- the closures and the argument list of the program are there
-pub record Listing {table : List ℕ} (w : Held table) (closures arguments : List ℕ) (count : ℕ) : Type 0 where
-  pub filled : Filled (w .program .rules) (2 ^ defeasibles (w .program .rules)) closures
-  pub room : Room (defeasibles (w .program .rules)) closures
+-- the rows of the program that the table holds are planned
+pub record Plans (table live keep base : List ℕ) (d s q n v : ℕ) : Type 0 where
+  pub planned : Planned live keep base d s q n v
+  pub plan-of : (p : Program) → Holds p table → PlanOf p live d s
+
+-- the rows and the argument list of the program are there
+pub record Listing {table : List ℕ} (w : Held table) (rows arguments : List ℕ) (count : ℕ) : Type 0 where
+  pub told : Tells (w .program .rules) rows
+  pub laid : Laid rows
   pub listed : take count arguments ≡ argumentList (w .program .rules)
   pub counted : count ≤ length arguments
 
-pub record Decidable (table closures arguments : List ℕ) (count h budget : ℕ) (t : Columns) : Type 0 where
+pub record Decidable (table rows arguments : List ℕ) (count h budget : ℕ) (t : Columns) : Type 0 where
   pub asked : Asked table h budget t
-  pub listing : Listing (asked .held) closures arguments count
+  pub listing : Listing (asked .held) rows arguments count
 
 -- the answer, and what it leaves in the four tables
 pub record Decided (p : Program) (h budget : ℕ) (r : Answer) (before after : Columns) : Type 0 where

@@ -1,43 +1,25 @@
--- The exclusion table: two words for each of the 128 literals, and what they say. Made once in a call, for those literals
--- that have an argument with a rule in its mask: no other argument attacks or is attacked.
+-- All that a call has made of a program before it looks for defeaters.
 use mathlib.Core.Path.{_≡_}
-use mathlib.Core.Bool.{true}
-use mathlib.Core.List.{List, List·Memᴰ}
-use Prim.Native.Nat.{ℕ, _+_, _*_, _^_, _<_, _≤_}
+use mathlib.Core.List.{List}
+use Prim.Native.Nat.{ℕ, _^_, _<_, _≤_}
 use lib.ListN.{length, getD, take}
-use Rattle.literals.specs.Sets.{has}
-use Rattle.literals.specs.inside.Words.{joined}
-use Rattle.program.specs.Program.{Rule, Program, defeasibles}
+use Rattle.program.specs.Program.{Program}
 use Rattle.program.specs.Limits.{Limits}
 use Rattle.program.specs.inside.Table.{Holds}
-use Rattle.derivation.specs.Closure.{excludes}
-use Rattle.argument.specs.Argument.{literalOf}
 use Rattle.argument.specs.List.{argumentList}
-use Rattle.argument.specs.inside.Closures.{Filled}
-
--- the row of the literal l
-abbrev pub excludedBy : List ℕ → ℕ → ℕ
-excludedBy t l = joined (getD t (2 * l + 1) 0) (getD t (2 * l) 0)
-
--- the row of each literal of u has those literals of u that exclude it, and no other
-pub record Excluded (rules : List Rule) (u : ℕ) (t : List ℕ) : Type 0 where
-  pub exact : (a b : ℕ) → has u a ≡ true → has u b ≡ true → has (excludedBy t a) b ≡ excludes rules a b
-  pub only : (a b : ℕ) → has u a ≡ true → has (excludedBy t a) b ≡ true → has u b ≡ true
-
--- u has the literal of each argument of the list whose mask is not empty
-abbrev pub Conclusions : ℕ → List ℕ → Type 0
-Conclusions u l = (x : ℕ) → List·Memᴰ x l → 128 ≤ x → has u (literalOf x) ≡ true
+use Rattle.excluded.specs.inside.Exclusions.{Excluded, Conclusions}
+use Rattle.closures.specs.inside.Table.{Tells}
 
 -- the table has so many entries, each M × 128 + h with a mask of 16 rules at most
 pub record Numbers (arguments : List ℕ) (count : ℕ) : Type 0 where
   pub enough : count ≤ length arguments
   pub small : (i : ℕ) → i < count → getD arguments i 0 < 2 ^ 23
 
--- all that a call has made of the program p before it looks for defeaters
-pub record Ready (p : Program) (u : ℕ) (table closures exclusions arguments : List ℕ) (count : ℕ) : Type 0 where
+-- the rules, the rows, the exclusion table and the list are those of the program p
+pub record Ready (p : Program) (u : ℕ) (table rows exclusions arguments : List ℕ) (count : ℕ) : Type 0 where
   pub limits : Limits p
   pub holds : Holds p table
-  pub filled : Filled (p .rules) (2 ^ defeasibles (p .rules)) closures
+  pub told : Tells (p .rules) rows
   pub excluded : Excluded (p .rules) u exclusions
   pub conclusions : Conclusions u (argumentList (p .rules))
   pub listed : take count arguments ≡ argumentList (p .rules)

@@ -16,9 +16,9 @@ use Rattle.tree.specs.inside.Tables.{Columns, Hold, Built}
 use Rattle.tree.specs.inside.Steps.{Prepared}
 
 -- what is asked before trees are written from number `at` on: "a budget of 0 to 4,096 nodes", and room for as many
-pub record RootsReady (table closures exclusions arguments : List ℕ) (count : ℕ) (line : List ℕ) (at limit : ℕ) (t : Columns)
+pub record RootsReady (table rows exclusions arguments : List ℕ) (count : ℕ) (line : List ℕ) (at limit : ℕ) (t : Columns)
     : Type 0 where
-  pub prepared : Prepared table closures exclusions arguments count
+  pub prepared : Prepared table rows exclusions arguments count
   pub below : at ≤ limit
   pub budget : limit ≤ 4096
   pub line-holds : limit ≤ length line

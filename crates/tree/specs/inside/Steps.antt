@@ -7,9 +7,9 @@ use lib.ListN.{length, getD, take, set}
 use lib.Dec.{eqb}
 use Rattle.lists.specs.Lists.{Within, choose, indexIn}
 use Rattle.literals.specs.Sets.{union}
-use Rattle.program.specs.Program.{Program, defeasibles}
+use Rattle.program.specs.Program.{Program}
 use Rattle.argument.specs.Argument.{maskOf}
-use Rattle.argument.specs.inside.Closures.{Room}
+use Rattle.closures.specs.inside.Table.{Laid}
 use Rattle.defeat.specs.Tests.{Tests}
 use Rattle.preference.specs.Preference.{preferredTest}
 use Rattle.defeat.specs.inside.Exclusions.{Ready as Made}
@@ -37,28 +37,28 @@ treeEntries t l x kind at parent = preorder (indexIn (t .arguments)) at parent (
 abbrev pub settledBy : (mark reply : ℕ) → ℕ
 settledBy mark reply = choose (eqb reply 1) 2 mark
 
--- the tables that a call lends down hold one program: its rules, its closures, its exclusion sets and its argument list
-pub record Prepared (table closures exclusions arguments : List ℕ) (count : ℕ) : Type 0 where
+-- the tables that a call lends down hold one program: its rules, its rows, its exclusion sets and its argument list
+pub record Prepared (table rows exclusions arguments : List ℕ) (count : ℕ) : Type 0 where
   pub program : Program
   pub conclusions : ℕ
-  pub made : Made program conclusions table closures exclusions arguments count
-  pub room : Room (defeasibles (program .rules)) closures
+  pub made : Made program conclusions table rows exclusions arguments count
+  pub laid : Laid rows
   pub counted : count ≤ length arguments
 
-module _ {table closures exclusions arguments : List ℕ} {count : ℕ} where
+module _ {table rows exclusions arguments : List ℕ} {count : ℕ} where
   -- the tests of that program
-  abbrev pub testsIn : Prepared table closures exclusions arguments count → Tests ℕ
+  abbrev pub testsIn : Prepared table rows exclusions arguments count → Tests ℕ
   testsIn w = testsOf (w .program) (preferredTest (w .program))
 
 -- what a step is asked. The argument is number j of the list, and the line so far is that of its parent: `own` has the
 -- masks of its side on the line, `other` those of the other side.
-pub record Ready (table closures exclusions arguments : List ℕ) (count : ℕ) (line : List ℕ)
+pub record Ready (table rows exclusions arguments : List ℕ) (count : ℕ) (line : List ℕ)
     (depth own other j parent kind at limit : ℕ) (t : Columns) : Type 0 where
-  pub prepared : Prepared table closures exclusions arguments count
+  pub prepared : Prepared table rows exclusions arguments count
   pub on-line : Within (lineOf line depth) (take count arguments)
   pub own-masks : own ≡ masksOf (theirs (lineOf line depth))
   pub other-masks : other ≡ masksOf (mine (lineOf line depth))
-  pub kind-is : (w : Prepared table closures exclusions arguments count)
+  pub kind-is : (w : Prepared table rows exclusions arguments count)
       → kind ≡ lastKind (testsIn w) (getD arguments j 0 ∷ lineOf line depth)
   pub argument-in : j < count
   pub parent-in : parent ≤ at
@@ -70,21 +70,21 @@ pub record Ready (table closures exclusions arguments : List ℕ) (count : ℕ) 
 
 -- what a step leaves, r being its result: the tree of the argument is built below its parent, from number `at` on, and the line
 -- up to the argument is as it was
-abbrev pub Leaves : (table closures exclusions arguments : List ℕ) (count : ℕ) (line line′ : List ℕ)
+abbrev pub Leaves : (table rows exclusions arguments : List ℕ) (count : ℕ) (line line′ : List ℕ)
     (depth j parent kind at limit r : ℕ) (t t′ : Columns) → Type 0
-Leaves table closures exclusions arguments count line line′ depth j parent kind at limit r t t′ =
-    ((w : Prepared table closures exclusions arguments count)
+Leaves table rows exclusions arguments count line line′ depth j parent kind at limit r t t′ =
+    ((w : Prepared table rows exclusions arguments count)
     → Built (treeEntries (testsIn w) (lineOf line depth) (getD arguments j 0) kind at parent) at limit r t t′)
     × (lineOf line′ depth ≡ lineOf line depth)
 
 -- what is asked of a candidate: the line is that of the node it replies to, `side` has the masks of the candidate's side
 -- on it, and `last` is the kind of its last argument
-pub record Asked (table closures exclusions arguments : List ℕ) (count : ℕ) (line : List ℕ) (depth side last : ℕ)
+pub record Asked (table rows exclusions arguments : List ℕ) (count : ℕ) (line : List ℕ) (depth side last : ℕ)
     : Type 0 where
-  pub prepared : Prepared table closures exclusions arguments count
+  pub prepared : Prepared table rows exclusions arguments count
   pub on-line : Within (lineOf line depth) (take count arguments)
   pub side-masks : side ≡ masksOf (theirs (lineOf line depth))
-  pub last-is : (w : Prepared table closures exclusions arguments count) → last ≡ lastKind (testsIn w) (lineOf line depth)
+  pub last-is : (w : Prepared table rows exclusions arguments count) → last ≡ lastKind (testsIn w) (lineOf line depth)
   pub deep : 0 < depth
   pub line-holds : depth ≤ length line
 

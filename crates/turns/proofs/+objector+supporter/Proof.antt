@@ -47,12 +47,12 @@ calls n = (
 )
 
 abbrev Inv-loop : supporter-lts.InvT-loop
-Inv-loop table closures exclusions arguments count line₀ depth own other j parent kind at limit indexes₀ parents₀ kinds₀ marks₀ x joined mark₀ next₀ start₀ line indexes parents kinds marks mark next start =
-    Turn table closures exclusions arguments count line₀ depth own other j parent kind at limit
+Inv-loop table rows exclusions arguments count line₀ depth own other j parent kind at limit indexes₀ parents₀ kinds₀ marks₀ x joined mark₀ next₀ start₀ line indexes parents kinds marks mark next start =
+    Turn table rows exclusions arguments count line₀ depth own other j parent kind at limit
     (columns indexes₀ parents₀ kinds₀ marks₀) x joined line (columns indexes parents kinds marks) mark next start
 
 abbrev μ-loop : supporter-lts.MeasureT-loop
-μ-loop table closures exclusions arguments count line₀ depth own other j parent kind at limit indexes₀ parents₀ kinds₀ marks₀ x joined mark₀ next₀ start₀ line indexes parents kinds marks mark next start =
+μ-loop table rows exclusions arguments count line₀ depth own other j parent kind at limit indexes₀ parents₀ kinds₀ marks₀ x joined mark₀ next₀ start₀ line indexes parents kinds marks mark next start =
     count - start
 
 -- The answers stand in the order of the code: the budget, the node that is entered, the loop; no candidate is left; the other

@@ -3,14 +3,14 @@
 use mathlib.Core.Path.{sym, ap, _∙_}
 use Rattle.program.specs.Limits.{Mask}
 use Rattle.preference.specs.Preference.{preferredTest}
-use Rattle.defeat.specs.inside.Exclusions.{excludedBy}
+use Rattle.excluded.specs.inside.Exclusions.{excludedBy}
 use Rattle.defeat.proofs.Attacks.{listed-mask, kind-strict, kind-weighed}
 use borrow.Author.Needs.{needs}
 use Rattle.defeat.proofs.defeaters.kind.Statement.{statement}
 use Rattle.defeat.proofs.defeaters.kind.Tie as tie
 
 returns : tie.Need-returns
-returns c p u closures ready lx ly = sym (kind-strict ready _ _ lx ly (preferredTest p) (c .if1 .taken))
+returns c p u rows ready lx ly = sym (kind-strict ready _ _ lx ly (preferredTest p) (c .if1 .taken))
 
 literal-of-requires : tie.Need-literal-of-requires
 literal-of-requires c κs = search needs
@@ -28,7 +28,7 @@ weigh-requires : tie.Need-weigh-requires
 weigh-requires c κs = search needs
 
 returns-2 : tie.Need-returns-2
-returns-2 c p u closures ready lx ly =
+returns-2 c p u rows ready lx ly =
     let m = c .before .before in
     let e = m .before in
     let i = e .before .before in

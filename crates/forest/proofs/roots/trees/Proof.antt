@@ -9,12 +9,12 @@ use Rattle.forest.proofs.roots.trees.Statement.{statement}
 use Rattle.forest.proofs.roots.trees.Tie as tie
 
 abbrev Inv-loop : tie.InvT-loop
-Inv-loop table closures exclusions arguments count literal line₀ at limit indexes₀ parents₀ kinds₀ marks₀ undefeated₀ next₀ start₀ line indexes parents kinds marks undefeated next start =
-    RootTurn table closures exclusions arguments count literal line₀ at limit (columns indexes₀ parents₀ kinds₀ marks₀)
+Inv-loop table rows exclusions arguments count literal line₀ at limit indexes₀ parents₀ kinds₀ marks₀ undefeated₀ next₀ start₀ line indexes parents kinds marks undefeated next start =
+    RootTurn table rows exclusions arguments count literal line₀ at limit (columns indexes₀ parents₀ kinds₀ marks₀)
     line (columns indexes parents kinds marks) undefeated next start
 
 abbrev μ-loop : tie.MeasureT-loop
-μ-loop table closures exclusions arguments count literal line₀ at limit indexes₀ parents₀ kinds₀ marks₀ undefeated₀ next₀ start₀ line indexes parents kinds marks undefeated next start =
+μ-loop table rows exclusions arguments count literal line₀ at limit indexes₀ parents₀ kinds₀ marks₀ undefeated₀ next₀ start₀ line indexes parents kinds marks undefeated next start =
     count - start
 
 loop-holds : tie.Need-loop-holds Inv-loop μ-loop

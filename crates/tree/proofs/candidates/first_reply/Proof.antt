@@ -11,12 +11,12 @@ use Rattle.tree.proofs.candidates.first_reply.Statement.{statement}
 use Rattle.tree.proofs.candidates.first_reply.Tie as tie
 
 abbrev Inv-loop : tie.InvT-loop
-Inv-loop table closures exclusions arguments count line depth side last start j₀ j =
-    Scanned (λ i. (w : Prepared table closures exclusions arguments count) → replyKind (testsIn w) (lineOf line depth) (getD arguments i 0) ≡ 0)
+Inv-loop table rows exclusions arguments count line depth side last start j₀ j =
+    Scanned (λ i. (w : Prepared table rows exclusions arguments count) → replyKind (testsIn w) (lineOf line depth) (getD arguments i 0) ≡ 0)
     start count j
 
 abbrev μ-loop : tie.MeasureT-loop
-μ-loop table closures exclusions arguments count line depth side last start j₀ j = count - j
+μ-loop table rows exclusions arguments count line depth side last start j₀ j = count - j
 
 loop-holds : tie.Need-loop-holds Inv-loop μ-loop
 loop-holds c = scan-start (c .before .before .before .pre .1)

@@ -1,8 +1,8 @@
 -- The tests in turn: of attack, of the candidate's side, of the line, of defeat, of the rule on blocking defeaters.
-use mathlib.Core.Path.{sym, _∙_}
+use mathlib.Core.Path.{subst}
+use Rattle.defeat.specs.inside.Steps.{AttacksBy}
 use borrow.Author.Tests.{not-true}
-use Rattle.tree.proofs.Asking.{asking-entry, asking-numbers, asking-x, asking-y, asking-apart, asking-discordant, asking-used, asking-free}
-use native.Mathlib.Omega.{arith}
+use Rattle.tree.proofs.Asking.{asking-numbers, asking-x, asking-y, asking-apart, asking-discordant, asking-used, asking-free}
 use borrow.Author.Needs.{needs}
 use Rattle.tree.proofs.candidates.reply_kind.Statement.{statement}
 use Rattle.tree.proofs.candidates.reply_kind.Tie as tie
@@ -23,24 +23,19 @@ shared-slice-read-y : tie.Need-shared-slice-read-y
 shared-slice-read-y c = search needs
 
 attacks-requires : tie.Need-attacks-requires
-attacks-requires c κs =
-    let s = c .before .before .before .before .before in
-    let x = asking-x (s .pre .0) (s .args .j) (s .pre .1) in
-    let y = asking-y (s .pre .0) (s .args .j) (s .pre .1) in
-    (omega arith, omega arith)
+attacks-requires c κs = c .before .before .before .before .before .pre .0 .prepared .laid
 
 returns : tie.Need-returns
 returns c =
     let s = c .before .before .before .before .before .before .before in
-    λ w. asking-apart (s .pre .0) (s .args .j) (s .pre .1) w (sym (c .before .attacks .ensures) ∙ not-true _ (c .if1 .taken))
+    λ w. asking-apart (s .pre .0) (s .args .j) (s .pre .1) w
+    (subst (AttacksBy (s .args .exclusions .now) (s .args .rows .now) _ _) (not-true _ (c .if1 .taken)) (c .before .attacks .ensures))
 
 mask-of-requires : tie.Need-mask-of-requires
 mask-of-requires c κs = search needs
 
 contradictory-requires : tie.Need-contradictory-requires
-contradictory-requires c κs =
-    let s = c .before .before .before .before .before .before .before .before in
-    asking-entry (s .pre .0) (s .args .j) (s .pre .1) (c .mask-of .result) (c .mask-of .ensures)
+contradictory-requires c κs = c .before .before .before .before .before .before .before .before .pre .0 .prepared .laid
 
 returns-2 : tie.Need-returns-2
 returns-2 c =
@@ -67,7 +62,7 @@ kind-requires c κs =
     let s = c .before .before .before .before .before .before .before .before .before .before .before .before in
     let x = asking-x (s .pre .0) (s .args .j) (s .pre .1) in
     let y = asking-y (s .pre .0) (s .args .j) (s .pre .1) in
-    (asking-numbers (s .pre .0) (s .args .j) (s .pre .1), (x .0, y .0))
+    (asking-numbers (s .pre .0) (s .args .j) (s .pre .1), (x, y))
 
 follow-requires : tie.Need-follow-requires
 follow-requires c κs = search needs
@@ -81,7 +76,7 @@ returns-4 c =
     let d = c .before .kind in
     λ w. asking-free (s .pre .0) (s .args .j) (s .pre .1) w (m .result) (m .ensures) (k .result) (k .ensures) (u .result)
     (u .ensures) (c .before .before .before .before .if2 .left) (c .before .before .if3 .left) (d .result) (c .follow .result)
-    (d .ensures (w .program) (w .conclusions) (s .args .closures .now) (w .made)) (c .follow .ensures)
+    (d .ensures (w .program) (w .conclusions) (s .args .rows .now) (w .made)) (c .follow .ensures)
 
 pub reply-kind-spec : {M : Type 1} → statement M
 reply-kind-spec =

@@ -1,0 +1,2 @@
+-- The laws of live rules.
+pub mod Takings

@@ -1,0 +1,2 @@
+-- What the sizes share.
+mod Twice

@@ -1,0 +1,2 @@
+-- What the steps of each size leave, held to the list.
+pub mod Lists
