@@ -1,5 +1,4 @@
 -- The minimal masks of a word: cut by the words without one bit of its number, and by its own places without one bit.
---
 use mathlib.Core.Path.{_≡_, refl, sym, ap, ap₂, _∙_, subst}
 use mathlib.Core.Bool.{Bool, true, false, not, _&&_, _||_, false≢true}
 use mathlib.Core.Logic.{_⊎_, inl, inr, ⊎-elim}

@@ -1,5 +1,4 @@
 -- What a row says for the masks from 64 w on, it says for those from 64 v on, v being w cut down to what the row keeps.
---
 use mathlib.Core.Path.{_≡_, refl, sym, ap, _∙_}
 use mathlib.Core.Bool.{Bool, true, false, _&&_}
 use mathlib.Core.List.{List}

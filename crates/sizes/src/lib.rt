@@ -71,8 +71,8 @@ fn middle(
     list_rows(live, plan, keep, base, &mut rows, arguments)
 }
 
-// The branch is for the compiler, and no call takes it: a function that calls itself is not merged into its caller, whose
-// frame would otherwise have this table too.
+// It calls itself as `huge` does. Here the compiler sees that no call takes the branch, and merges it into its caller all the
+// same: a caller's frame has this table too.
 fn large(
     live: &RuleTable,
     plan: Ground,
@@ -95,7 +95,8 @@ fn large(
     list_rows(live, plan, keep, base, &mut rows, arguments)
 }
 
-// The greatest size, which no table goes past.
+// The greatest size, which no table goes past. The branch is for the compiler, and no call takes it: a function that calls
+// itself is not merged into its caller, whose frame would otherwise have this megabyte too.
 fn huge(
     live: &RuleTable,
     plan: Ground,
