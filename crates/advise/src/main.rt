@@ -1,5 +1,7 @@
 // The adviser: reads an image from standard input, prints the number of its arguments and what is answered to each of its
 // literals. A read or a write that fails ends it with a line on standard error.
+#![tactic(auto)]
+
 ghost use Rattle.std.specs.Prelude.{◌≤◌, length};
 ghost use Rattle.advise.specs.Inside.Input.{Within};
 

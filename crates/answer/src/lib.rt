@@ -1,6 +1,8 @@
 // Answers of a program: specs/ defines when each is given, proofs/ shows it.
 
 // A literal's answer with its number of nodes, or the number and place of the first cause that applies.
+#![tactic(auto)]
+
 #[derive(Drop)]
 pub enum Answer {
     Yes { nodes: u32 },

@@ -1,5 +1,7 @@
 // The calls on an image that build no tree: whether it is accepted, and its arguments. specs/ has the definitions of every
 // call.
+#![tactic(auto)]
+
 ghost use Rattle.std.specs.Prelude.{◌≡◌, length};
 ghost use Rattle.program.specs.Inside.Table.{Holds};
 ghost use Rattle.layout.specs.Reading.{program_in};

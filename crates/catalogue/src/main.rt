@@ -1,5 +1,7 @@
 // Prints what the strict part of each image derives: the files that are named, or standard input where none is.
 // It links the derivation part and nothing above it.
+#![tactic(auto)]
+
 use layout::Verdict;
 use literals::LiteralSet;
 

@@ -1,4 +1,6 @@
 // What clashes in the strict part of an image that is refused with 14: one small clash, marked in a lent byte table.
+#![tactic(auto)]
+
 ghost use Rattle.std.specs.Prelude.{◌≡◌, ◌<◌, ◌≤◌, length};
 ghost use Rattle.lists.specs.Lists.{choose};
 ghost use Rattle.literals.specs.Inside.Words.{set_of};

@@ -1,4 +1,6 @@
 // Makes the table of rows of a program: what Π with each mask derives, for all masks at once, and which masks are contradictory.
+#![tactic(auto)]
+
 ghost use Rattle.std.specs.Prelude.{◌≡◌, true, ℕ, ◌+◌, ◌%◌, ◌^◌, ◌<◌, ◌≤◌, length, get_or};
 ghost use Rattle.literals.specs.Sets.{has as «has_of», union as «union_of», within as «within_of»};
 ghost use Rattle.literals.specs.Inside.Words.{set_of};

@@ -1,5 +1,7 @@
 // What each mask of defeasible rules derives with the strict ones, in one table of rows: a row of bits for each literal, one for
 // each mask, and a row for the contradictory masks. Nobody above reads the table but by these calls.
+#![tactic(auto)]
+
 ghost use Rattle.std.specs.Prelude.{◌≡◌, true, ℕ, ◌+◌, ◌*◌, ◌<◌};
 ghost use Rattle.literals.specs.Sets.{has as «has_of», within as «within_of»};
 ghost use Rattle.minima.specs.Minima.{Minima};

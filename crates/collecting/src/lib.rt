@@ -1,5 +1,7 @@
 // The argument list, read off the table of rows: an argument's mask is minimal in its literal's row and not contradictory. The
 // rows go by literals and the list by masks, so the words with an argument are turned, 64 masks at a time.
+#![tactic(auto)]
+
 ghost use Rattle.std.specs.Prelude.{◌≡◌, true, ◌+◌, ◌*◌, ◌<◌, ◌≤◌, length};
 ghost use Rattle.std.proofs.lemmas.List.Edits.{sets};
 ghost use Rattle.lists.specs.Inside.Stores.{Written};

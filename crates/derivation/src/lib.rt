@@ -1,5 +1,7 @@
 // What a set of rules derives from given literals. The rules are those of a rule table: the strict ones, and the
 // defeasible ones whose bit is in a mask.
+#![tactic(auto)]
+
 ghost use Rattle.std.specs.Prelude.{◌≡◌, true, ◌+◌, ◌^◌, ◌<◌, ◌≤◌};
 ghost use Rattle.std.specs.Int.Count.{ones};
 ghost use Rattle.literals.specs.Sets.{within as «within_of»};

@@ -1,5 +1,7 @@
 // Two calls on one image, each the query or the call from C: literals that exclude each other never both get YES. No program
 // needs it: it shows that what the calls promise is enough.
+#![tactic(auto)]
+
 ghost use Rattle.std.specs.Prelude.{◌≡◌, true, false, ◌&&◌, eqb, length};
 ghost use Rattle.answer.specs.Answer.{code_of};
 ghost use Rattle.exclusion.specs.Exclusion.{call_of, says_yes, OneCall, TablesLeft, TwoCalls};

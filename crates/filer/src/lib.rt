@@ -1,4 +1,6 @@
 // The writer of the filed form and the way back: crate `filing` has their definitions and what is claimed of them.
+#![tactic(auto)]
+
 ghost use Rattle.std.specs.Prelude.{◌≡◌, ◌≤◌, length, take};
 ghost use Rattle.std.proofs.lemmas.List.Edits.{sets};
 ghost use Rattle.lists.specs.Inside.Numbering.{Numbering};

@@ -1,4 +1,6 @@
 // The calls for C programs: libfoqtirel.a, declared in include/foqtirel.h.
+#![tactic(auto)]
+
 ghost use Rattle.std.specs.Prelude.{◌≡◌, length};
 ghost use Rattle.calls.specs.Calls.{check_call, list_call, list_table, trees_call, query_arguments, query_nodes, host_call};
 ghost use Rattle.clash.specs.Calls.{clash_call, clash_table};

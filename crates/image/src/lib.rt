@@ -1,4 +1,6 @@
 // The program image: from bytes to the rule table in one pass, or the first cause that refuses them.
+#![tactic(auto)]
+
 ghost use Rattle.std.specs.Prelude.{◌≡◌, ◌≤◌, length};
 ghost use Rattle.program.specs.Program.{Program, defeasibles};
 ghost use Rattle.program.specs.Limits.{Limits};

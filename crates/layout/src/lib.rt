@@ -1,4 +1,6 @@
 // The layout of the program image: a cursor over its bytes, its header and its directory.
+#![tactic(auto)]
+
 pub mod cursor;
 pub mod header;
 

@@ -1,4 +1,6 @@
 // What a call that lists the arguments returns, and how a set of them is written.
+#![tactic(auto)]
+
 
 pub mod arguments;
 

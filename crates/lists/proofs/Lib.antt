@@ -3,8 +3,6 @@ pub mod Lists
 pub mod Orders
 pub mod Scans
 pub mod Decides
-pub mod Locals
-pub mod LocalArrays
 pub mod Places
 pub mod Permutations
 pub mod Sorting

@@ -84,6 +84,7 @@ module _ {A : Type 0} where
 
   module _ (test : A → Bool) where
     pub any_intro : {x : A} (l : List A) → Memᴰ x l → T (test x) → T (any test l)
+    any_intro [] none h = elim none [ ]
     any_intro (x ∷ l) (Memᴰ.head e) h = or_left (test x) (any test l) (subst (λ y. T (test y)) e h)
     any_intro (x ∷ l) (Memᴰ.tail i) h = or_right (test x) (any test l) (any_intro l i h)
 
@@ -105,10 +106,12 @@ module _ {A : Type 0} where
         and_intro (test x) (all test l) (f x (Memᴰ.head refl)) (all_intro l (λ y i. f y (Memᴰ.tail i)))
 
     pub all_at : {x : A} (l : List A) → T (all test l) → Memᴰ x l → T (test x)
+    all_at [] h none = elim none [ ]
     all_at (y ∷ l) h (Memᴰ.head e) = subst (λ z. T (test z)) (sym e) (and_both (test y) (all test l) h).0
     all_at (y ∷ l) h (Memᴰ.tail i) = all_at l (and_both (test y) (all test l) h).1 i
 
     pub filter_intro : {x : A} (l : List A) → Memᴰ x l → T (test x) → Memᴰ x (filter test l)
+    filter_intro [] none h = elim none [ ]
     filter_intro (y ∷ l) (Memᴰ.head e) h =
         Memᴰ.cast e (keep_head (test y) y (filter test l) (subst (λ z. T (test z)) e h))
     filter_intro (y ∷ l) (Memᴰ.tail i) h = keep_tail (test y) y (filter_intro l i h)
@@ -172,6 +175,7 @@ module _ {A : Type 0} (strict wide : A → Bool) (within : (x : A) → T (strict
 
   pub filter_lt : {y : A} (l : List A) → Memᴰ y l → T (wide y) → (T (strict y) → ⊥)
       → length (filter strict l) < length (filter wide l)
+  filter_lt {y = y} [] none h n = elim none [ ]
   filter_lt (x ∷ l) (Memᴰ.head e) h n =
       let refused : T (strict x) → ⊥ = λ k. n (subst (λ z. T (strict z)) (sym e) k) in
       keep_new x (filter strict l) (filter wide l) (strict x) (wide x) refused (subst (λ z. T (wide z)) e h) (filter_le l)
@@ -182,6 +186,7 @@ module _ {A : Type 0} (strict wide : A → Bool) (within : (x : A) → T (strict
 
 module _ {A B : Type 0} (f : A → B) where
   pub map_intro : {x : A} (l : List A) → Memᴰ x l → Memᴰ (f x) (map f l)
+  map_intro [] none = elim none [ ]
   map_intro (x ∷ l) (Memᴰ.head e) = Memᴰ.head (ap f e)
   map_intro (x ∷ l) (Memᴰ.tail i) = Memᴰ.tail (map_intro l i)
 

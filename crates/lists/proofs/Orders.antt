@@ -96,6 +96,7 @@ ascends_low (x ∷ l) low high z a i =
     ⊎_elim (λ e. omega arith) (λ j. omega (arith, ascends_low l (suc x) high z a.2 j)) (Memᴰ.cases_cons i)
 
 pub ascends_high : (l : List ℕ) (low high z : ℕ) → Ascends low high l → Memᴰ z l → z < high
+ascends_high [] low high z a none = elim none [ ]
 ascends_high (x ∷ l) low high z a (Memᴰ.head e) = let b = a.1 in omega arith
 ascends_high (x ∷ l) low high z a (Memᴰ.tail i) = ascends_high l (suc x) high z a.2 i
 

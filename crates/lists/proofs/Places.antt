@@ -18,6 +18,7 @@ module _ {A : Type 0} (d : A) where
   there (x ∷ l) (suc i) h = mathlib.Core.List.Memᴰ.tail (there l i (omega arith))
 
   pub found : (l : List A) (x : A) → Memᴰ x l → (i : ℕ) × (i < length l) × (get_or l i d ≡ x)
+  found [] x none = elim none [ ]
   found (y ∷ l) x (mathlib.Core.List.Memᴰ.head e) = (0, omega arith, sym e)
   found (y ∷ l) x (mathlib.Core.List.Memᴰ.tail i) = let f = found l x i in (suc f.0, omega (arith, f.1), f.2)
 

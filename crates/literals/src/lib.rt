@@ -1,5 +1,7 @@
 // Sets of the 128 literals, two words by value, and masks of defeasible rules. Each operation is one on the number that
 // the words hold: the sum of 2^l over the members l.
+#![tactic(auto)]
+
 ghost use Rattle.std.specs.Prelude.{◌≡◌, ◌<◌, ◌%◌, eqb};
 ghost use Rattle.std.specs.Int.Count.{ones};
 ghost use Rattle.literals.specs.Sets.{has as «has_of», insert as «insert_of», union as «union_of»};

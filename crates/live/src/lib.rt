@@ -1,5 +1,7 @@
 // The live rules of a program: those that bear on a literal that is derivable and not derived by Π, with what Π derives cut
 // from their bodies, bodies before heads where possible.
+#![tactic(auto)]
+
 ghost use Rattle.std.specs.Prelude.{◌≡◌, ◌+◌, ◌<◌, length};
 ghost use Rattle.literals.specs.Inside.Words.{set_of};
 ghost use Rattle.program.specs.Inside.Table.{rule_count, Shaped};

@@ -1,4 +1,6 @@
 // What is read off the rows, 64 masks at a time: the minimal masks of a row.
+#![tactic(auto)]
+
 ghost use Rattle.std.specs.Prelude.{◌≡◌, ℕ, ◌+◌, ◌*◌, ◌^◌, ◌<◌, length, get_or};
 ghost use Rattle.literals.specs.Sets.{has as «has_of»};
 ghost use Rattle.minima.specs.Minima.{Minima};

@@ -1,4 +1,6 @@
 // The node table: structs written from four tables of numbers, one for each field.
+#![tactic(auto)]
+
 ghost use Rattle.std.specs.Prelude.{◌≡◌, ◌<◌, ◌≤◌, length};
 ghost use Rattle.tree.specs.Inside.Tables.{columns, Hold};
 ghost use Rattle.answer.specs.Answer.{nodes_of};

@@ -1,5 +1,7 @@
 // What a forest comes to: the answer from its number of nodes and its roots, and zeros in the four tables where it has more
 // nodes than the budget.
+#![tactic(auto)]
+
 ghost use Rattle.std.specs.Prelude.{◌≤◌, ◌≡◌, true, ltb};
 ghost use Rattle.tree.specs.Inside.Tables.{columns, Hold};
 ghost use Rattle.answer.specs.Answer.{answer_of};

@@ -1,4 +1,6 @@
 // What a call returns, as one number for a C program.
+#![tactic(auto)]
+
 ghost use Rattle.std.specs.Prelude.{◌≡◌, ◌<◌};
 ghost use Rattle.calls.specs.Calls.{refusal_number, verdict_number, listed_number, written_number, answered_number, packed};
 

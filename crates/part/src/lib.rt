@@ -1,4 +1,6 @@
 // A rule within its own part: causes 4 to 9.
+#![tactic(auto)]
+
 ghost use Rattle.std.specs.Prelude.{◌≡◌, ◌≤◌, ◌<◌, drop};
 ghost use Rattle.layout.specs.Causes.{all_below};
 ghost use Rattle.part.specs.Inside.Steps.{BodyRead, PartRead};

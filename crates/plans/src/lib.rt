@@ -1,4 +1,6 @@
 // The plan of projected rows: which rules bear on each literal, above the lowest six bits, and where each row begins.
+#![tactic(auto)]
+
 ghost use Rattle.std.specs.Prelude.{◌≡◌, ◌+◌, ◌*◌, ◌^◌, ◌<◌, ◌≤◌, length};
 ghost use Rattle.program.specs.Inside.Table.{rule_count, Shaped};
 ghost use Rattle.literals.specs.Inside.Words.{set_of};

@@ -1,4 +1,6 @@
 // Preference between arguments by chains of listed pairs. An argument's rules are those of its mask.
+#![tactic(auto)]
+
 ghost use Rattle.std.specs.Prelude.{◌≡◌, ◌<◌, ◌^◌};
 ghost use Rattle.program.specs.Program.{Program};
 ghost use Rattle.program.specs.Limits.{Limits, Mask};

@@ -1,4 +1,6 @@
 // The rule table: the words that the engine reads a program from. Its layout stands here and in specs/, nowhere else.
+#![tactic(auto)]
+
 ghost use Rattle.std.specs.Prelude.{◌≡◌, ◌<◌};
 ghost use Rattle.literals.specs.Inside.Words.{set_of};
 ghost use Rattle.program.specs.Inside.Table.{head_at, body_at, need_at, rule_of_bit, beaten_at, rule_count, bit_count, atom_count};

@@ -1,4 +1,6 @@
 // An image filed and brought back. No program needs it: it shows that what the two calls promise is enough.
+#![tactic(auto)]
+
 ghost use Rattle.std.specs.Prelude.{◌≡◌, length};
 ghost use Rattle.lists.specs.Lists.{choose};
 ghost use Rattle.calls.specs.Calls.{front};

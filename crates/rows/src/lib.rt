@@ -1,6 +1,8 @@
 // Rows of switched rules: for each literal the masks under which the rules derive it, 64 masks to a word. Row l has a word for
 // each choice of those switches that bear on l, as far as they are above the lowest six. The rules are the rows of a rule
 // table, in its order: any order does, bodies before heads is the fastest.
+#![tactic(auto)]
+
 ghost use Rattle.std.specs.Prelude.{◌≡◌, true, ℕ, ◌+◌, ◌<◌, ◌≤◌, length, get_or};
 ghost use Rattle.literals.specs.Sets.{within as «within_of»};
 ghost use Rattle.literals.specs.Inside.Words.{set_of};

@@ -1,5 +1,7 @@
 // The list with a table of rows of its own, in one of four sizes: a program whose rows are short neither clears nor reserves a
 // megabyte.
+#![tactic(auto)]
+
 ghost use Rattle.std.specs.Prelude.{◌≡◌, ◌+◌, ◌^◌, ◌<◌, length};
 ghost use Rattle.literals.specs.Inside.Words.{set_of};
 ghost use Rattle.program.specs.Program.{Program};

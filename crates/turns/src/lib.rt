@@ -1,5 +1,7 @@
 // Supporter and objector take turns down every line. Each step writes the tree of one argument into four lent tables, in
 // preorder, and marks it.
+#![tactic(auto)]
+
 ghost use Rattle.std.specs.Prelude.{◌<◌};
 ghost use Rattle.tree.specs.Inside.Tables.{columns};
 ghost use Rattle.tree.specs.Inside.Steps.{Ready, Leaves};

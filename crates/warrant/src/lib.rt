@@ -1,5 +1,7 @@
 // Warrant: what the calls answer, and what they leave in the lent tables. Crate `calls` has the definitions of the calls,
 // specs/ what is claimed of them, proofs/ the theorems.
+#![tactic(auto)]
+
 ghost use Rattle.std.specs.Prelude.{◌≡◌, length};
 ghost use Rattle.calls.specs.Calls.{queried, query_arguments, query_nodes};
 

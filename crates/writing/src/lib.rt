@@ -1,5 +1,7 @@
 // The bytes of a program, written into a table that the caller lends. What the bytes are stands in specs/Image.antt. Each step
 // starts at a place of the table and hands back the place after what it wrote, where the next step goes on.
+#![tactic(auto)]
+
 ghost use Rattle.std.specs.Prelude.{◌≡◌, [], ◌∷◌, ◌+◌, ◌*◌, ◌/◌, ◌%◌, ◌≤◌, ◌<◌, length};
 ghost use Rattle.lists.specs.Inside.Stores.{Written};
 ghost use Rattle.writing.specs.Image.{directory, together};
