@@ -1,8 +1,7 @@
 // Answers of a program: specs/ defines when each is given, proofs/ shows it.
-
-// A literal's answer with its number of nodes, or the number and place of the first cause that applies.
 #![tactic(auto)]
 
+// A literal's answer with its number of nodes, or the number and place of the first cause that applies.
 #[derive(Drop)]
 pub enum Answer {
     Yes { nodes: u32 },
