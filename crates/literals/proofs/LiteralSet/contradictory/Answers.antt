@@ -8,16 +8,11 @@ use Rattle.literals.proofs.Tests.{not_and}
 use Rattle.literals.proofs.Members.{union_empty}
 use Rattle.literals.proofs.Pairs.{pairs, pairs_clash}
 use Rattle.literals.proofs.Words.{joined_clash}
-use Rattle.literals.proofs.LiteralSet.contradictory.Statement.{statement}
-use Rattle.literals.proofs.LiteralSet.contradictory.Tie as tie
+use Rattle.literals.proofs.LiteralSet.contradictory.Goals as goal
 
-returns : tie.Need-returns
+pub returns : goal.returns
 unfolding set_of
-returns c =
-    let s = c.before.before.before.before.args.self in
+returns c = let s = c.args.self in
     ap not (union_empty (pairs s.lo) (pairs s.hi)) ∙ not_and (eqb (pairs s.lo) 0) (eqb (pairs s.hi) 0)
     ∙ ap₂ (λ (x y : Bool). x || y) (pairs_clash s.lo) (pairs_clash s.hi)
     ∙ sym (joined_clash s.hi s.lo (search rules))
-
-pub contradictory-spec : {M : Type 1} → statement M
-contradictory-spec = tie.close (tie.spec returns)

@@ -1,0 +1,11 @@
+-- `LiteralSet::meets` meets its contract: the words meet.
+use borrow.Author.Rules.{rules}
+use Rattle.literals.specs.Inside.Words.{set_of}
+use Rattle.literals.proofs.Words.{joined_meets}
+use Rattle.literals.proofs.LiteralSet.meets.Goals as goal
+
+pub returns : goal.returns
+unfolding set_of
+returns c = let s = c.args.self in
+    let o = c.args.other in
+    joined_meets s.hi s.lo o.hi o.lo (search rules) (search rules)

@@ -1,0 +1,11 @@
+-- `LiteralSet::within` meets its contract: both words are within the other set's.
+use borrow.Author.Rules.{rules}
+use Rattle.literals.specs.Inside.Words.{set_of}
+use Rattle.literals.proofs.Words.{joined_within}
+use Rattle.literals.proofs.LiteralSet.within.Goals as goal
+
+pub returns : goal.returns
+unfolding set_of
+returns c = let s = c.args.self in
+    let o = c.args.other in
+    joined_within s.hi s.lo o.hi o.lo (search rules) (search rules)

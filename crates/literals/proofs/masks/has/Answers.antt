@@ -1,0 +1,9 @@
+-- `masks::has` meets its contract.
+use mathlib.Core.Path.{refl}
+use borrow.Author.Rules.{rules}
+use Rattle.literals.specs.Sets.{bit, has}
+use Rattle.literals.proofs.masks.has.Goals as goal
+
+pub returns : goal.returns
+unfolding has bit
+returns c = refl
