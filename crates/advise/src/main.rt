@@ -7,7 +7,7 @@ ghost use Rattle.advise.specs.Inside.Input.{Within};
 
 use warrant::Listed;
 
-#[derive(Drop)]
+#[derive(Clone, Copy)]
 enum Input {
     Bytes(usize),
     Failed,

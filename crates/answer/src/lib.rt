@@ -2,7 +2,7 @@
 #![tactic(auto)]
 
 // A literal's answer with its number of nodes, or the number and place of the first cause that applies.
-#[derive(Drop)]
+#[derive(Clone, Copy)]
 pub enum Answer {
     Yes { nodes: u32 },
     No { nodes: u32 },

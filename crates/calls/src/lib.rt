@@ -12,7 +12,7 @@ use literals::LiteralSet;
 use program::RuleTable;
 
 // The number of arguments, or the number and place of the first cause that applies.
-#[derive(Drop)]
+#[derive(Clone, Copy)]
 pub enum Listed {
     Count(u32),
     Refused { number: u32, place: u32 },
@@ -24,7 +24,7 @@ impl Listed {
 }
 
 // What a call that fills a byte table returns: how many bytes it wrote, or the number and place of the first cause that applies.
-#[derive(Drop)]
+#[derive(Clone, Copy)]
 pub enum Written {
     Length(u32),
     Refused { number: u32, place: u32 },

@@ -16,7 +16,7 @@ use literals::{LiteralSet, masks};
 use program::RuleTable;
 
 // What Π derives, and what is derived with all rules and not by Π.
-#[derive(Drop)]
+#[derive(Clone, Copy)]
 pub struct Reached {
     pub derived: LiteralSet,
     pub literals: LiteralSet,
@@ -24,7 +24,7 @@ pub struct Reached {
 
 // Those two sets, the atoms that may clash, by their even literals, where the literals' rows end and that of the contradictory
 // masks begins, and what bears on it.
-#[derive(Drop)]
+#[derive(Clone, Copy)]
 pub struct Ground {
     pub derived: LiteralSet,
     pub literals: LiteralSet,

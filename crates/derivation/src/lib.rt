@@ -36,14 +36,14 @@ pub fn excludes(table: &RuleTable, a: u64, b: u64) -> bool
 }
 
 // A set, with how many rounds led to it.
-#[derive(Drop)]
+#[derive(Clone, Copy)]
 struct Gathered {
     set: LiteralSet,
     rounds: u64,
 }
 
 // A set, with how many bodies have been read in the round.
-#[derive(Drop)]
+#[derive(Clone, Copy)]
 struct Turned {
     set: LiteralSet,
     read: u64,

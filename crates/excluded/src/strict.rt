@@ -9,7 +9,7 @@ use literals::{LiteralSet, masks};
 use program::RuleTable;
 
 // How many rules are taken, and which; the literals that they reach.
-#[derive(Drop)]
+#[derive(Clone, Copy)]
 pub struct Progress {
     pub n: u64,
     pub taken: LiteralSet,
@@ -17,7 +17,7 @@ pub struct Progress {
 }
 
 // The numbers of some rules, and their heads.
-#[derive(Drop)]
+#[derive(Clone, Copy)]
 pub struct Chosen {
     pub rules: LiteralSet,
     pub heads: LiteralSet,

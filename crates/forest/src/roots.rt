@@ -11,14 +11,14 @@ use program::RuleTable;
 use turns::supporter;
 
 // The next free node number, and whether some root is marked U.
-#[derive(Drop)]
+#[derive(Clone, Copy)]
 pub struct Rooted {
     pub next: usize,
     pub undefeated: bool,
 }
 
 // The number of nodes, and whether the literal has a root marked U, and its complement.
-#[derive(Drop)]
+#[derive(Clone, Copy)]
 pub struct Grown {
     pub nodes: usize,
     pub won: bool,

@@ -22,14 +22,14 @@ use program::RuleTable;
 pub type Links = [u8; 224];
 
 // What reading one rule leaves: how many rules are defeasible so far, or the first of causes 4 to 10.
-#[derive(Drop)]
+#[derive(Clone, Copy)]
 pub enum Step {
     Next(u64),
     Refused { number: u32, place: u32 },
 }
 
 // What reading all rules leaves: how many are defeasible, and where the pairs begin; or the first of causes 3 to 10.
-#[derive(Drop)]
+#[derive(Clone, Copy)]
 pub enum Rules {
     Read { bits: u64, from: usize },
     Refused { number: u32, place: u32 },

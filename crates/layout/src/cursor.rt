@@ -5,34 +5,34 @@ ghost use Rattle.layout.specs.Layout.{number_at};
 ghost use Rattle.layout.specs.Inside.Steps.{byte_from, pair_from, number_from, numbers_from, follow_from, PartAt, Located};
 
 // A position in the bytes.
-#[derive(Drop)]
+#[derive(Clone, Copy)]
 pub struct Cursor {
     pub at: usize,
 }
 
 // One byte.
-#[derive(Drop)]
+#[derive(Clone, Copy)]
 pub enum Byte {
     Read { value: u8, next: Cursor },
     Past,
 }
 
 // Two bytes, one after the other: a rule's kind and head, or the two rule numbers of a preference pair.
-#[derive(Drop)]
+#[derive(Clone, Copy)]
 pub enum Pair {
     Read { first: u8, second: u8, next: Cursor },
     Past,
 }
 
 // A two-byte number.
-#[derive(Drop)]
+#[derive(Clone, Copy)]
 pub enum Number {
     Read { value: u16, next: Cursor },
     Past,
 }
 
 // Two such numbers, one after the other: two counts, or where a part starts and how long it is.
-#[derive(Drop)]
+#[derive(Clone, Copy)]
 pub enum Numbers {
     Read {
         first: u16,
@@ -43,14 +43,14 @@ pub enum Numbers {
 }
 
 // The end of a part that begins where the one before it ended, or that there is no such part.
-#[derive(Drop)]
+#[derive(Clone, Copy)]
 pub enum Follow {
     Read { to: usize, next: Cursor },
     Broken,
 }
 
 // Where a part lies in the image.
-#[derive(Drop)]
+#[derive(Clone, Copy)]
 pub struct Span {
     pub from: usize,
     pub to: usize,

@@ -8,7 +8,7 @@ use crate::Verdict;
 use crate::cursor::{Cursor, Follow, Numbers};
 
 // How many atoms, rules and preference pairs the image says it has.
-#[derive(Drop)]
+#[derive(Clone, Copy)]
 pub struct Counts {
     pub atoms: usize,
     pub rules: usize,
@@ -16,7 +16,7 @@ pub struct Counts {
 }
 
 // The counts with the cursor after them, or the first of causes 1 and 2 that applies.
-#[derive(Drop)]
+#[derive(Clone, Copy)]
 pub enum Header {
     Read { counts: Counts, next: Cursor },
     Refused { number: u32, place: u32 },

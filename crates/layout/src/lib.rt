@@ -5,7 +5,7 @@ pub mod cursor;
 pub mod header;
 
 // Accepted, or the number and the place of the first cause that applies.
-#[derive(Drop)]
+#[derive(Clone, Copy)]
 pub enum Verdict {
     Accepted,
     Refused { number: u32, place: u32 },

@@ -5,7 +5,7 @@
 pub mod arguments;
 
 // The number of arguments, or that the lent table is too short for them.
-#[derive(Drop)]
+#[derive(Clone, Copy)]
 pub enum Listed {
     Count(u32),
     Over,

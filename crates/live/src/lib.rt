@@ -12,7 +12,7 @@ use literals::LiteralSet;
 use program::RuleTable;
 
 // How many rules are taken, and which; the heads of those that wait.
-#[derive(Drop)]
+#[derive(Clone, Copy)]
 pub struct Progress {
     pub n: u64,
     pub taken: LiteralSet,

@@ -12,7 +12,7 @@ use answer::Answer;
 // A node of a dialectical tree: its argument's index in the argument list, its parent's node number, its kind, its mark.
 // In C's layout, since C programs lend such a table.
 #[repr(C)]
-#[derive(Drop)]
+#[derive(Clone, Copy)]
 pub struct Node {
     pub argument: u32,
     pub parent: u32,

@@ -10,7 +10,7 @@ use layout::cursor::{Byte, Cursor, Pair};
 use literals::LiteralSet;
 
 // A rule, or the first of causes 4 to 9 that applies to it.
-#[derive(Drop)]
+#[derive(Clone, Copy)]
 pub enum Part {
     Rule {
         defeasible: bool,
@@ -24,7 +24,7 @@ pub enum Part {
 }
 
 // A body as a set, or the first of causes 6 and 7 that applies to it.
-#[derive(Drop)]
+#[derive(Clone, Copy)]
 pub enum Body {
     Read(LiteralSet),
     Refused(u32),

@@ -12,7 +12,7 @@ use literals::masks;
 use program::RuleTable;
 
 // An argument's index in the list, with its kind as a reply.
-#[derive(Drop)]
+#[derive(Clone, Copy)]
 pub struct Reply {
     pub index: usize,
     pub kind: u8,

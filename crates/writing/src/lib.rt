@@ -10,7 +10,7 @@ ghost use Rattle.writing.specs.Inside.Steps.{PartsAt, Numbers, parts_by, entry_b
 use layout::cursor;
 
 // Where the next directory entry goes, and where the part that it is for begins.
-#[derive(Drop)]
+#[derive(Clone, Copy)]
 pub struct Place {
     pub at: usize,
     pub from: usize,
