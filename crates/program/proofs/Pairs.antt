@@ -51,6 +51,7 @@ module _ (l : List Rule) (a : ℕ) where
 
   all_has : (m b : ℕ) (ps : List (ℕ × ℕ)) → Memᴰ (a, b) ps → has (listed_from l a m ps) (bit_of l b) ≡ true
   unfolding listed_from
+  all_has m b [] none = elim none [ ]
   all_has m b (q ∷ ps) (Memᴰ.head e) =
       all_keeps (after m q) (bit_of l b) ps (ap (λ (x : ℕ × ℕ). has (after m x) (bit_of l b)) (sym e) ∙ after_has m b)
   all_has m b (q ∷ ps) (Memᴰ.tail i) = all_has (after m q) b ps i

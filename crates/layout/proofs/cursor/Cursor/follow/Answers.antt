@@ -1,0 +1,23 @@
+-- `Cursor::follow` meets its contract: what follows, and what does not.
+use mathlib.Core.Path.{sym, ◌∙◌}
+use Rattle.layout.proofs.Cursors.{numbers_ended, numbers_is, follow_broken, follow_read}
+use native.Mathlib.Omega.{arith}
+use borrow.Author.Rules.{rules}
+use Rattle.layout.proofs.cursor.Cursor.follow.Goals as goal
+
+pub returns-in_default : goal.returns-in_default
+returns-in_default c = follow_broken _ _ _ (λ f. let r = f.room in omega (arith, numbers_ended _ _ (sym c.numbers.ensures ∙ c.in_default.is)))
+
+pub returns-then-from-ends : goal.returns-then-from-ends
+returns-then-from-ends c = let e = numbers_is _ _ _ _ _ (sym c.numbers.ensures ∙ c.in-Read.is) in
+    follow_broken _ _ _ (λ f. c.if-from-ends.true (e.first_is ∙ f.begins))
+
+pub returns-then-image-to : goal.returns-then-image-to
+returns-then-image-to c = let e = numbers_is _ _ _ _ _ (sym c.numbers.ensures ∙ c.in-Read.is) in
+    follow_broken _ _ _ (λ f. let i = f.inside in omega (arith, e.second_is, c.if-from-ends.false, c.if-image-to.true))
+
+pub returns : goal.returns
+returns c = let e = numbers_is _ _ _ _ _ (sym c.numbers.ensures ∙ c.in-Read.is) in
+    follow_read _ _ _ _ _
+    (record { room = e.room; begins = sym e.first_is ∙ c.if-from-ends.false; inside = omega (arith, e.second_is, c.if-from-ends.false, c.if-image-to.false) })
+    (omega (arith, e.second_is, c.if-from-ends.false)) e.next

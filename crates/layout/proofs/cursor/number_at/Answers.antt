@@ -1,0 +1,7 @@
+-- `number_at` meets its contract: the two bytes, joined.
+use Rattle.layout.proofs.Cursors.{number_joined}
+use borrow.Author.Rules.{rules}
+use Rattle.layout.proofs.cursor.number_at.Goals as goal
+
+pub returns : goal.returns
+returns c = number_joined c.args.image.now c.args.at _ _ c.wide.ensures.0 c.wide-2.ensures.0

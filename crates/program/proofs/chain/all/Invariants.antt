@@ -1,0 +1,17 @@
+-- `chain::all` meets its contract: bit by bit, chains through the bits before k are closed.
+use mathlib.Core.Path.{◌≡◌, refl, sym, ◌∙◌}
+use Prim.Native.Nat.{◌-◌, ◌≤◌}
+use native.Mathlib.Omega.{arith}
+use lib.ListN.{length}
+use Rattle.program.specs.Program.{Program, defeasibles}
+use Rattle.program.specs.Limits.{Limits}
+use Rattle.program.specs.Inside.Filling.{ListedIn}
+use Rattle.program.proofs.Chaining.{ChainedTo, chained_start, chained_turn, chained_end, chained_none}
+use borrow.Author.Rules.{rules}
+use Rattle.program.proofs.chain.all.Given as goal
+
+abbrev pub invariant-loop-k : goal.invariant-loop-k
+invariant-loop-k l = (length l.table ≡ length l.initial.table) × ((p : Program) → Limits p → length l.initial.table ≡ 419 → l.bits ≡ defeasibles p.rules → ListedIn p l.initial.table → ChainedTo p l.k l.table) × (l.k ≤ l.bits)
+
+abbrev pub decreases-loop-k : goal.decreases-loop-k
+decreases-loop-k l = l.bits - l.k
