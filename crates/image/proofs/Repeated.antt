@@ -20,7 +20,7 @@ use Rattle.program.specs.Inside.Filling.{Stored}
 use Rattle.layout.specs.Layout.{part_of, kind_byte, head_byte, body_bytes}
 use Rattle.layout.specs.Causes.{same_bytes, stands_in}
 use Rattle.layout.specs.Reading.{rule_in}
-use Rattle.part.proofs.Bytes.{set_known, same_bytes, bytes_same, part_split}
+use Rattle.part.proofs.Bytes.{set_known, same_bytes_lem, bytes_same, part_split}
 use Rattle.image.proofs.Accepted.{PartSound}
 use Rattle.image.specs.Inside.Passes.{LastWith, Linked, linked_with, RowIs, SameIs, Repeats}
 
@@ -214,7 +214,7 @@ module _ (a b : List ℕ) (atoms m n : ℕ) (x : PartSound a atoms m) (y : PartS
 
     pub bytes_row : same_bytes a b ≡ true → RowIs t j d head set
     bytes_row q =
-        let e : a ≡ b = same_bytes a b q in
+        let e : a ≡ b = same_bytes_lem a b q in
         record {
           head_same = r.head_is ∙ ap head_byte e ∙ sym h;
           body_same = r.body_is ∙ ap (λ (l : List ℕ). insert_all 0 (body_bytes l)) e ∙ sym s;

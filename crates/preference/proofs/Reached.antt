@@ -63,6 +63,7 @@ spread_keeps (q ∷ ps) s i = spread_keeps ps (follow q s) (follow_keeps q s i)
 spread_follows : (ps : List (ℕ × ℕ)) (s : List ℕ) (q : ℕ × ℕ) → Memᴰ q ps → Memᴰ q.0 s
     → Memᴰ q.1 (spread ps s)
 unfolding spread
+spread_follows [] s q none i = elim none [ ]
 spread_follows (r ∷ ps) s q (Memᴰ.head e) i =
     spread_keeps ps (follow r s)
     (subst (λ (z : ℕ × ℕ). Memᴰ q.1 (follow z s)) e (follow_has q s i))

@@ -16,8 +16,7 @@ use Rattle.program.proofs.Fillings.{stored_strict, stored_defeasible}
 use Rattle.image.specs.Inside.Passes.{RuleIs}
 use native.Mathlib.Omega.{arith}
 use borrow.Author.Rules.{rules}
-use Rattle.image.proofs.rules.store.Statement.{statement}
-use Rattle.image.proofs.rules.store.Tie as tie
+use Rattle.image.proofs.rules.store.Goals as goal
 
 -- what the contract says of the table, by the kind of the rule
 abbrev Put : Bool → ℕ → ℕ → ℕ → ℕ → LiteralSet → List ℕ → List ℕ → Type 0
@@ -39,35 +38,11 @@ module _ (d : Bool) (i bit h : ℕ) (body : LiteralSet) (s t : List ℕ) (small 
         λ q z r. subst (Stored q i bit s) (sym whole) (stored_defeasible q i bit s h body small z r.head_is r.body_is (r.kind_is ∙ ap (λ (b : Bool). choose b defeasible strict) k) few),
       )
 
-shl-store-row : tie.Need-overflow-shl-store-row
-shl-store-row c = search rules
+pub store_bit-requires : goal.store_bit-requires
+store_bit-requires c = c.requires.1 c.if-defeasible.true
 
-store-row-requires : tie.Need-store-row-requires
-store-row-requires c κs = search rules
+pub returns-then-defeasible : goal.returns-then-defeasible
+returns-then-defeasible c = defeasible-put _ _ _ _ _ _ _ c.requires.0 _ c.if-defeasible.true (c.requires.1 c.if-defeasible.true) c.store_row.ensures c.store_bit.ensures
 
-store-bit-requires : tie.Need-store-bit-requires
-store-bit-requires c κs = c.before.before.before.before.requires.1 c.before.before.before.if1.true
-
-add-result : tie.Need-overflow-add-result
-add-result c = search rules
-
-returns : tie.Need-returns
-returns c = defeasible-put _ _ _ _ _ _ _ c.before.before.before.before.before.requires.0 _ c.before.before.before.before.if1.true (c.before.before.before.before.before.requires.1 c.before.before.before.before.if1.true) c.before.before.store-row.ensures c.store-bit.ensures
-
-store-row-requires-2 : tie.Need-store-row-requires-2
-store-row-requires-2 c κs = search rules
-
-returns-2 : tie.Need-returns-2
-returns-2 c = strict-put _ _ _ _ _ _ _ c.before.before.before.requires.0 c.before.before.if1.false c.store-row2.ensures
-
-pub store_spec : {M : Type 1} → statement M
-store_spec =
-    tie.close
-    (tie.spec
-    shl-store-row
-    store-row-requires
-    store-bit-requires
-    add-result
-    returns
-    store-row-requires-2
-    returns-2)
+pub returns : goal.returns
+returns c = strict-put _ _ _ _ _ _ _ c.requires.0 c.if-defeasible.false c.store_row-2.ensures

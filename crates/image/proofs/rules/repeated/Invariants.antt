@@ -1,0 +1,13 @@
+-- From link to link no row is the same so far.
+use Prim.Native.Nat.{◌-◌}
+use Rattle.literals.specs.Inside.Words.{set_of}
+use Rattle.image.proofs.Repeated.{Missed, missed_start, missed_end, missed_found, missed_fewer, missed_next}
+use native.Mathlib.Omega.{arith}
+use borrow.Author.Rules.{rules}
+use Rattle.image.proofs.rules.repeated.Given as goal
+
+abbrev pub invariant-loop-after : goal.invariant-loop-after
+invariant-loop-after l = Missed l.table l.after l.i l.defeasible l.head (set_of l.body)
+
+abbrev pub decreases-loop-after : goal.decreases-loop-after
+decreases-loop-after l = l.after
