@@ -1,0 +1,18 @@
+-- `bearing` meets its contract.
+use mathlib.Core.Path.{◌≡◌, refl, sym, ◌∙◌}
+use mathlib.Core.Bool.{Bool, true, false, false≢true}
+use Prim.Native.Nat.{ℕ, ◌+◌}
+use lib.ListN.{length}
+use Rattle.lists.specs.Lists.{choose}
+use Rattle.rows.specs.Steps.{slack}
+use Rattle.rows.specs.Layout.{Bearing}
+use Rattle.plans.specs.Steps.{Small}
+use Rattle.plans.proofs.Bearings.{small_empty, bears_all, bears_falls}
+use borrow.Author.Rules.{rules}
+use Rattle.plans.proofs.bearing.Given as goal
+
+abbrev pub invariant-loop-grown : goal.invariant-loop-grown
+invariant-loop-grown l = (length l.keep ≡ 128) × Small l.keep × (l.grown ≡ false → Bearing l.table l.keep)
+
+abbrev pub decreases-loop-grown : goal.decreases-loop-grown
+decreases-loop-grown l = slack l.keep + choose {A = ℕ} l.grown 1 0
