@@ -18,7 +18,7 @@ use Rattle.layout.specs.Layout.{kind_byte, part_of}
 use Rattle.layout.specs.Causes.{refuse, bad_size, bad_kind, bad_literal, bad_body, bad_empty, bad_seventeenth, part_verdict, same_bytes, stands_in}
 use Rattle.part.proofs.Verdicts.{by_tests}
 use Rattle.layout.proofs.Directory.{neither_left, neither_right}
-use Rattle.part.proofs.Bytes.{same_bytes, bytes_same}
+use Rattle.part.proofs.Bytes.{same_bytes_lem, bytes_same}
 use Rattle.image.proofs.Accepted.{then_left, then_right, refuse_not}
 use Rattle.writing.specs.Image.{pair_key}
 use Rattle.writing.proofs.Reading.{pair_at}
@@ -67,7 +67,7 @@ stands_none s part zero j h = refl
 stands_none s part (suc n) j h = go (same_bytes (part_of s j) part) refl (stands_none s part n (suc j) (λ k l. h k (omega arith)))
   where
     go : (b : Bool) → same_bytes (part_of s j) part ≡ b → stands_in s part (suc j) n ≡ false → (b || stands_in s part (suc j) n) ≡ false
-    go true e r = absurd (h j (omega arith) (same_bytes (part_of s j) part e))
+    go true e r = absurd (h j (omega arith) (same_bytes_lem (part_of s j) part e))
     go false e r = r
 
 pub stands_apart : (s part : List ℕ) (n j : ℕ) → stands_in s part j n ≡ false → (k : ℕ) → j ≤ k → k < j + n → part_of s k ≡ part → ⊥

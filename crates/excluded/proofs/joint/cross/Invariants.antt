@@ -1,0 +1,13 @@
+-- `joint::cross` meets its contract: the atoms before one are looked at.
+use mathlib.Core.Path.{refl, ◌∙◌}
+use Prim.Native.Nat.{◌-◌}
+use Rattle.excluded.proofs.Crossings.{Crossing, crossing_none, crossing_skip, crossing_more, crossing_all}
+use borrow.Author.Rules.{rules}
+use native.Mathlib.Omega.{arith}
+use Rattle.excluded.proofs.joint.cross.Given as goal
+
+abbrev pub invariant-loop-atom : goal.invariant-loop-atom
+invariant-loop-atom l = Crossing l.reach l.initial.exclusions l.exclusions l.atom l.clashes
+
+abbrev pub decreases-loop-atom : goal.decreases-loop-atom
+decreases-loop-atom l = 64 - l.atom

@@ -1,0 +1,14 @@
+-- `joint::pairs` meets its contract: the atoms before one are looked at.
+use Prim.Native.Nat.{◌-◌, ◌≤◌}
+use Rattle.literals.specs.Inside.Words.{set_of}
+use Rattle.excluded.specs.Inside.Joint.{Pairs}
+use Rattle.excluded.proofs.Crossings.{pairs_none, pairs_more, pairs_all}
+use borrow.Author.Rules.{rules}
+use native.Mathlib.Omega.{arith}
+use Rattle.excluded.proofs.joint.pairs.Given as goal
+
+abbrev pub invariant-loop-atom : goal.invariant-loop-atom
+invariant-loop-atom l = (l.atom ≤ 64) × Pairs l.rows l.atom (set_of l.found)
+
+abbrev pub decreases-loop-atom : goal.decreases-loop-atom
+decreases-loop-atom l = 64 - l.atom

@@ -1,0 +1,14 @@
+-- `reach::place` meets its contract: the rows before l have their places.
+use mathlib.Core.Path.{◌≡◌, sym, ◌∙◌}
+use Prim.Native.Nat.{ℕ, ◌-◌, ◌*◌, ◌<◌}
+use lib.ListN.{length, get_or, length-set}
+use Rattle.excluded.proofs.Crossings.{doubles_more}
+use borrow.Author.Rules.{rules}
+use native.Mathlib.Omega.{arith}
+use Rattle.excluded.proofs.reach.place.Given as goal
+
+abbrev pub invariant-loop-l : goal.invariant-loop-l
+invariant-loop-l l = (length l.base ≡ 128) × ((k : ℕ) → k < l.l → get_or l.base k 0 ≡ 2 * k)
+
+abbrev pub decreases-loop-l : goal.decreases-loop-l
+decreases-loop-l l = 128 - l.l

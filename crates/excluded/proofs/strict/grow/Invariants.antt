@@ -1,0 +1,20 @@
+-- `strict::grow` meets its contract: each turn takes a rule, or is the last.
+use mathlib.Core.Path.{◌≡◌, refl, ◌∙◌}
+use mathlib.Core.Bool.{true}
+use Prim.Native.Nat.{◌-◌}
+use lib.ListN.{length}
+use Rattle.literals.specs.Sets.{within}
+use Rattle.literals.specs.Inside.Words.{set_of}
+use Rattle.literals.proofs.Within.{within_refl, within_trans}
+use Rattle.excluded.specs.Inside.Strict.{Taken}
+use Rattle.excluded.proofs.Takings.{taken_most, open_left, still_all}
+use borrow.Author.Rules.{rules}
+use native.Mathlib.Omega.{arith}
+use Rattle.excluded.proofs.strict.grow.Given as goal
+
+abbrev pub invariant-loop-derived : goal.invariant-loop-derived
+invariant-loop-derived l = (length l.rules ≡ length l.initial.rules) × (within (set_of l.initial.p.reach) (set_of l.p.reach) ≡ true)
+    × Taken l.table (set_of l.derived) l.p.n (set_of l.p.taken) (set_of l.p.reach) l.rules
+
+abbrev pub decreases-loop-derived : goal.decreases-loop-derived
+decreases-loop-derived l = 96 - l.p.n

@@ -1,0 +1,14 @@
+-- The entries of the parts from the k-th number on are left to be written.
+use Prim.Native.Nat.{◌+◌, ◌-◌, ◌<◌, ◌≤◌}
+use native.Mathlib.Omega.{arith}
+use lib.ListN.{length}
+use Rattle.layout.proofs.Parts.{located_order}
+use Rattle.writing.proofs.Outputs.{Entering, entering_all, entering_none, entry_fits, entry_written}
+use borrow.Author.Rules.{rules}
+use Rattle.writing.proofs.entries.Given as goal
+
+abbrev pub invariant-loop-k : goal.invariant-loop-k
+invariant-loop-k l = Entering l.image l.rules l.order l.initial.out l.out l.at l.next l.start l.from l.k
+
+abbrev pub decreases-loop-k : goal.decreases-loop-k
+decreases-loop-k l = l.rules - l.k
