@@ -25,11 +25,14 @@ use Rattle.tree.proofs.Published.{forest_grows, forest_unique, roots_arguments}
 
 -- ---- an index
 
+index_same : {A : Type 0} {l m : List A} {x y : A} {i j : ℕ} → IndexIn l x i → IndexIn m y j → l ≡ m → x ≡ y → i ≡ j
+index_same here here e f = refl
+index_same here (later n b) e f = absurd (n cc)
+index_same (later n a) here e f = absurd (n cc)
+index_same (later n a) (later m b) e f = let rest = index_same a b (cc) f in ap suc rest
+
 pub index_unique : {A : Type 0} {l : List A} {x : A} {i j : ℕ} → IndexIn l x i → IndexIn l x j → i ≡ j
-index_unique here here = refl
-index_unique here (later n b) = absurd (n refl)
-index_unique (later n a) here = absurd (n refl)
-index_unique (later n a) (later m b) = ap suc (index_unique a b)
+index_unique a b = index_same a b refl refl
 
 -- the computed index of what stands in the list
 pub index_found : (l : List ℕ) (x : ℕ) → Memᴰ x l → IndexIn l x (index_in l x)

@@ -17,8 +17,7 @@ use Rattle.image.proofs.Accepted.{accepted_limits}
 use Rattle.calls.specs.Calls.{check_image}
 use native.Mathlib.Omega.{arith}
 use borrow.Author.Rules.{rules}
-use Rattle.calls.proofs.load.Statement.{statement}
-use Rattle.calls.proofs.load.Tie as tie
+use Rattle.calls.proofs.load.Goals as goal
 
 module _ (s : List ℕ) where
   -- causes 1 to 13, then 14 by its test
@@ -47,54 +46,22 @@ module _ (s : List ℕ) where
   accepted : (t : List ℕ) → verdict s ≡ Accepted → contradictory (Π (program_in s).rules) ≡ false → Holds (program_in s) t → (Accepted ≡ check_image s) × (check_image s ≡ Accepted → Holds (program_in s) t)
   accepted t e f h = (sym (check_by Accepted false e f), λ a. h)
 
-read-requires : tie.Need-read-requires
-read-requires c κs = search rules
+pub returns-in-Refused : goal.returns-in-Refused
+returns-in-Refused c = refused c.args.image.now _ _ _ (sym c.read.ensures.0 ∙ c.in-Refused.is)
 
-enum-known-number : tie.Need-enum-known-number
-enum-known-number c = search rules
+pub close-requires : goal.close-requires
+close-requires c = let s = c.args.image.now in
+    let e = sym c.read.ensures.0 ∙ c.in_default.is in
+    shaped s _ e (c.read.ensures.1 e)
 
-returns : tie.Need-returns
-returns c = refused c.before.before.before.before.before.before.args.image.now _ _ _ (sym c.before.before.before.read.ensures.0 ∙ c.before.number.given.1)
+pub returns-then-contradictory : goal.returns-then-contradictory
+returns-then-contradictory c = let s = c.args.image.now in
+    let e = sym c.read.ensures.0 ∙ c.in_default.is in
+    let h = c.read.ensures.1 e in
+    clashing s _ e (tested s _ _ _ _ _ c.close.ensures c.empty.ensures h c.contradictory.ensures c.if-contradictory.true)
 
-enum_told : tie.Need-enum-told
-enum_told c = search rules
-
-empty-requires : tie.Need-empty-requires
-empty-requires c κs = search rules
-
-close-requires : tie.Need-close-requires
-close-requires c κs =
-    let s = c.before.before.before.before.before.before.before.args.image.now in
-    let e = sym c.before.before.before.before.read.ensures.0 ∙ c.before.before.enum_told.given.1 in
-    shaped s _ e (c.before.before.before.before.read.ensures.1 e)
-
-contradictory-requires : tie.Need-contradictory-requires
-contradictory-requires c κs = search rules
-
-returns-2 : tie.Need-returns-2
-returns-2 c =
-    let s = c.before.before.before.before.before.before.before.before.before.before.args.image.now in
-    let e = sym c.before.before.before.before.before.before.before.read.ensures.0 ∙ c.before.before.before.before.before.enum_told.given.1 in
-    let h = c.before.before.before.before.before.before.before.read.ensures.1 e in
-    clashing s _ e (tested s _ _ _ _ _ c.before.before.close.ensures c.before.before.before.empty.ensures h c.before.contradictory.ensures c.if1.true)
-
-returns-3 : tie.Need-returns-3
-returns-3 c =
-    let s = c.before.before.before.before.before.before.before.before.before.before.args.image.now in
-    let e = sym c.before.before.before.before.before.before.before.read.ensures.0 ∙ c.before.before.before.before.before.enum_told.given.1 in
-    let h = c.before.before.before.before.before.before.before.read.ensures.1 e in
-    accepted s _ e (tested s _ _ _ _ _ c.before.before.close.ensures c.before.before.before.empty.ensures h c.before.contradictory.ensures c.if1.false) h
-
-pub load_spec : {M : Type 1} → statement M
-load_spec =
-    tie.close
-    (tie.spec
-    read-requires
-    enum-known-number
-    returns
-    enum_told
-    empty-requires
-    close-requires
-    contradictory-requires
-    returns-2
-    returns-3)
+pub returns : goal.returns
+returns c = let s = c.args.image.now in
+    let e = sym c.read.ensures.0 ∙ c.in_default.is in
+    let h = c.read.ensures.1 e in
+    accepted s _ e (tested s _ _ _ _ _ c.close.ensures c.empty.ensures h c.contradictory.ensures c.if-contradictory.false) h

@@ -1,0 +1,38 @@
+-- The tests in turn: of attack, of the candidate's side, of the line, of defeat, of the rule on blocking defeaters.
+use mathlib.Core.Path.{subst}
+use Rattle.defeat.specs.Inside.Steps.{AttacksBy}
+use borrow.Author.Tests.{not-true}
+use Rattle.tree.proofs.Asking.{asking_numbers, asking_x, asking_y, asking_apart, asking_discordant, asking_used, asking_free}
+use borrow.Author.Rules.{rules}
+use Rattle.tree.proofs.candidates.reply_kind.Goals as goal
+
+pub attacks-requires : goal.attacks-requires
+attacks-requires c = c.requires.asked.prepared.laid
+
+pub returns-then-not-attacks : goal.returns-then-not-attacks
+returns-then-not-attacks c = λ w. asking_apart c.requires.asked c.args.j c.requires.j_lt_count w
+    (subst (AttacksBy c.args.exclusions.now c.args.rows.now _ _) c.if-not-attacks.true c.attacks.ensures)
+
+pub contradictory-requires : goal.contradictory-requires
+contradictory-requires c = c.requires.asked.prepared.laid
+
+pub returns-then-contradictory : goal.returns-then-contradictory
+returns-then-contradictory c = λ w. asking_discordant c.requires.asked c.args.j c.requires.j_lt_count w c.mask_of-mask.result c.mask_of-mask.ensures c.contradictory.result c.contradictory.ensures
+    c.if-contradictory.true
+
+pub returns-then-used : goal.returns-then-used
+returns-then-used c = λ w. asking_used c.requires.asked c.args.j c.requires.j_lt_count w c.mask_of-mask.result c.mask_of-mask.ensures c.contradictory.result c.contradictory.ensures c.used.result
+    c.used.ensures c.if-used.true
+
+pub kind-kind-requires : goal.kind-kind-requires
+kind-kind-requires c = let x = asking_x c.requires.asked c.args.j c.requires.j_lt_count in
+    let y = asking_y c.requires.asked c.args.j c.requires.j_lt_count in
+    record {
+  numbers = asking_numbers c.requires.asked c.args.j c.requires.j_lt_count;
+  x_bound = (x, y);
+}
+
+pub returns : goal.returns
+returns c = λ w. asking_free c.requires.asked c.args.j c.requires.j_lt_count w c.mask_of-mask.result c.mask_of-mask.ensures c.contradictory.result c.contradictory.ensures c.used.result
+    c.used.ensures c.if-contradictory.false c.if-used.false c.kind-kind.result c.follow.result
+    (c.kind-kind.ensures w.program w.conclusions c.args.rows.now w.made) c.follow.ensures
