@@ -1,0 +1,13 @@
+-- The first numbers are below the count and have their places; no other has one.
+use mathlib.Core.Bool.{true, false, false≢true}
+use Prim.Native.Nat.{◌-◌, ◌≤◌}
+use Rattle.filer.proofs.Renumberings.{Placing, placing_none, placing_next, placing_far, placing_again, placing_done}
+use native.Mathlib.Omega.{arith}
+use borrow.Author.Rules.{rules}
+use Rattle.filer.proofs.numbers.invert.Given as goal
+
+abbrev pub invariant-loop-i : goal.invariant-loop-i
+invariant-loop-i l = Placing l.numbers l.initial.places l.places l.count l.i × (l.i ≤ l.count)
+
+abbrev pub decreases-loop-i : goal.decreases-loop-i
+decreases-loop-i l = l.count - l.i
