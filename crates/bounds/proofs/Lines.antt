@@ -50,6 +50,7 @@ module _ {A : Type 0} {F : Frame A} where
   -- the line of each node is acceptable, where each root's is
   pub grows_acceptable : {list l xs n : List A} {f : Forest A} → Grows F list l xs f
       → ((x : A) → Memᴰ x xs → AcceptableLine F (x ∷ l)) → LineIn l f n → AcceptableLine F n
+  grows_acceptable {list = list} {n = n} (Rattle.tree.specs.Published.no_more {l = l}) each none = elim none [ ]
   grows_acceptable (node {x = x} k ch g rest) each first = each x (Memᴰ.head refl)
   grows_acceptable (node {l} {x = x} k ch g rest) each (below i) =
       grows_acceptable g (λ y j. child_acceptable F (x ∷ l) y ((in_order_member ch y).0 j).1) i
@@ -57,6 +58,7 @@ module _ {A : Type 0} {F : Frame A} where
 
   -- trees with a node have a root
   pub roots_some : {list l xs n : List A} {f : Forest A} → Grows F list l xs f → LineIn l f n → (x : A) × Memᴰ x xs
+  roots_some {list = list} {l = l} {n = n} Rattle.tree.specs.Published.no_more i = elim i [ ]
   roots_some (node {x = x} k ch g rest) i = (x, Memᴰ.head refl)
 
 -- ---- of a program's

@@ -42,6 +42,7 @@ once_within (n ∷ l) x i = go (once_within l x) (keep_cases (is_new n l) n x (o
 
 once_has : (l : List ℕ) → Within l (once l)
 unfolding once
+once_has [] x none = elim none [ ]
 once_has (n ∷ l) x (Memᴰ.tail i) = keep_tail (is_new n l) n (once_has l x i)
 once_has (n ∷ l) x (Memᴰ.head e) = Memᴰ.cast e (go (once_has l n) (T_known (member n l)))
   where

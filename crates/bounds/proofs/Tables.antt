@@ -155,6 +155,7 @@ module _ {A : Type 0} {F : Frame A} {list : List A} (d : A) (parent_of : ℕ →
   pub preorder_has : {l n : List A} {above at : ℕ} {f : Forest A} {es : List Entry} → InPreorder F list l above at f es
       → Above list d parent_of argument_of l above at → Reads list d parent_of argument_of at es → LineIn l f n
       → (j : ℕ) × (j < length es) × LineUp parent_of argument_of (at + j) n
+  preorder_has {n = n} (no_entry {l = l} {above = above} {at = at}) a r none = elim none [ ]
   preorder_has (entry {l} {above} {at} {x = x} {c = c} {es = es} {fs} i m under rest) a r first =
       let s = steps list d parent_of argument_of l x above at es fs c _ (preorder_size under) (index_at d i) refl a r in
       let e : at ≡ at + 0 = omega arith in
