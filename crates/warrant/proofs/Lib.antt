@@ -5,4 +5,3 @@ pub mod Answers
 pub mod Claims
 pub mod Queries
 pub mod Rows
-pub mod Asking

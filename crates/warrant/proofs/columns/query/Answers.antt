@@ -1,0 +1,38 @@
+-- `columns::query` meets its contract: cause by cause, then the answer in the program.
+use mathlib.Core.Path.{sym, ◌∙◌}
+use native.Mathlib.Omega.{arith}
+use native.Mathlib.Nat.{le_trans}
+use Rattle.warrant.proofs.Queries.{held_in, query_image, query_20, query_21, query_22, query_settled}
+use borrow.Author.Rules.{rules}
+use Rattle.warrant.proofs.columns.query.Goals as goal
+
+pub returns-in-Refused : goal.returns-in-Refused
+returns-in-Refused c = query_image c.args.image.now _ _ c.args.arguments.now _ _ _ (sym c.load.ensures.0 ∙ c.in-Refused.is) _
+
+pub returns-then-literal-ge128 : goal.returns-then-literal-ge128
+returns-then-literal-ge128 c = query_20 c.args.image.now _ _ c.args.arguments.now _ (sym c.load.ensures.0 ∙ c.in_default.is) c.if-literal-ge128.true _
+
+pub returns-then-budget-gt4096 : goal.returns-then-budget-gt4096
+returns-then-budget-gt4096 c = query_21 c.args.image.now _ _ c.args.arguments.now _ (sym c.load.ensures.0 ∙ c.in_default.is) c.if-literal-ge128.false c.if-budget-gt4096.true _
+
+pub returns-then-room-budget : goal.returns-then-room-budget
+returns-then-room-budget c = query_22 c.args.image.now _ _ c.args.arguments.now _ (sym c.load.ensures.0 ∙ c.in_default.is) c.if-literal-ge128.false c.if-budget-gt4096.false c.if-room-budget.true _
+
+pub query-requires : goal.query-requires
+query-requires c = let e = sym c.load.ensures.0 ∙ c.in_default.is in
+    let limit = c.if-budget-gt4096.false in
+    record {
+      held = held_in c.args.image.now _ e (c.load.ensures.1 e);
+      literal_below = c.if-literal-ge128.false;
+      budget_below = limit;
+      tables_hold = record {
+        arguments_hold = le_trans limit c.requires.arguments_hold;
+        parents_hold = le_trans limit c.requires.parents_hold;
+        kinds_hold = le_trans limit c.requires.kinds_hold;
+        marks_hold = le_trans limit c.requires.marks_hold;
+      };
+    }
+
+pub returns : goal.returns
+returns c = let e = sym c.load.ensures.0 ∙ c.in_default.is in
+    query_settled c.args.image.now _ _ c.args.arguments.now _ e c.if-literal-ge128.false c.if-budget-gt4096.false c.if-room-budget.false _ _ _ _ (c.query.ensures (held_in c.args.image.now _ e (c.load.ensures.1 e)))
