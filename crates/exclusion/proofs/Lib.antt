@@ -1,3 +1,2 @@
 -- What the walks cite.
 pub mod Exclusion
-pub mod LetGo
