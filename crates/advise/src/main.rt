@@ -5,83 +5,68 @@
 ghost use Rattle.std.specs.Prelude.{◌≤◌, length};
 ghost use Rattle.advise.specs.Inside.Input.{Within};
 
+use std::io;
+use std::io::{Print, Read};
 use warrant::Listed;
 
-#[derive(Clone, Copy)]
+#[derive(Drop)]
 enum Input {
     Bytes(usize),
-    Failed,
+    Failed(io::Error),
 }
 
 // An image has at most 1,836 bytes: of a longer input the first 2,048 are enough to refuse it.
-fn main() {
+fn main(rt: HostRuntime) {
     let mut bytes = [0u8; 2048];
-    let Input::Bytes(length) = read(&mut bytes) else {
-        os::fail(b"advise: standard input");
-        return;
-    };
-    if !advise(&bytes[..length]) {
-        os::fail(b"advise: standard output");
+    match read(&mut rt.stdin(), &mut bytes) {
+        Input::Bytes(length) => {
+            if let Err(error) = advise(&rt, &bytes[..length]) {
+                tell(&rt.stderr(), "standard output", error);
+            }
+        }
+        Input::Failed(error) => tell(&rt.stderr(), "standard input", error),
     }
 }
 
+// What failed, and why. Where the line can't be written either, nothing is left to tell it.
+fn tell(errors: &impl Print, stream: &str, error: io::Error) {
+    let _ = println!(errors; "advise: {stream}: {error}");
+}
+
 // Reads standard input to its end, or until the buffer is full.
-fn read(buffer: &mut [u8]) -> Input
+fn read(input: &mut impl Read, buffer: &mut [u8]) -> Input
     ensures { Within result (length buffer.new) }
 {
     let mut length: usize = 0;
     while length < buffer.len() {
-        let got = libc::read(0, &mut buffer[length..]);
-        if got < 0 {
-            return Input::Failed;
+        match input.read(&mut buffer[length..]) {
+            Err(error) => return Input::Failed(error),
+            Ok(0) => return Input::Bytes(length),
+            Ok(more) => length += more,
         }
-        let more = io::count(got, &buffer[length..]);
-        if more == 0 {
-            return Input::Bytes(length);
-        }
-        length += more;
     }
     Input::Bytes(length)
 }
 
-// The number of arguments and each literal's answer, or one line that says why the image is refused: whether it is written.
-fn advise(image: &[u8]) -> bool {
+// The number of arguments and each literal's answer, or one line that says why the image is refused.
+fn advise(rt: &impl Print, image: &[u8]) -> io::Result<()> {
     let mut arguments = [0u32; 4096];
     match warrant::list(image, &mut arguments) {
-        Listed::Refused { number, place } => refused(number, place),
-        Listed::Count(count) => answers(image, count),
+        Listed::Refused { number, place } => println!(rt; "refused {number} {place}"),
+        Listed::Count(count) => answers(rt, image, count),
     }
-}
-
-fn refused(number: u32, place: u32) -> bool {
-    io::write_all(1, b"refused ")
-        && io::print_decimal(1, number as u64)
-        && io::write_all(1, b" ")
-        && io::print_decimal(1, place as u64)
-        && io::write_all(1, b"\n")
 }
 
 // The image is accepted, so that its first byte is the number of atoms.
-fn answers(image: &[u8], count: u32) -> bool {
+fn answers(rt: &impl Print, image: &[u8], count: u32) -> io::Result<()> {
     if image.len() < 12 {
-        return true;
+        return Ok(());
     }
-    if !arguments(count) {
-        return false;
+    println!(rt; "arguments {count}")?;
+    for literal in 0..twice(image[0]) {
+        line(rt, literal, foqtirel::foqtirel_query(image, literal, 4096))?;
     }
-    let literals = twice(image[0]);
-    let mut literal: u32 = 0;
-    while literal < literals {
-        if !line(literal, foqtirel::foqtirel_query(image, literal, 4096)) {
-            return false;
-        }
-        literal += 1;
-    }
-    true
-}
-
-fn arguments(count: u32) -> bool {
-    io::write_all(1, b"arguments ") && io::print_decimal(1, count as u64) && io::write_all(1, b"\n")
+    Ok(())
 }
 
 // The literals of so many atoms.
@@ -92,25 +77,17 @@ fn twice(atoms: u8) -> u32
 }
 
 // A literal's number, its answer and the nodes.
-fn line(literal: u32, packed: u32) -> bool {
-    io::print_decimal(1, literal as u64)
-        && word(packed / 65536)
-        && io::print_decimal(1, (packed % 65536) as u64)
-        && io::write_all(1, b"\n")
+fn line(rt: &impl Print, literal: u32, packed: u32) -> io::Result<()> {
+    println!(rt; "{literal} {} {}", word(packed / 65536), packed % 65536)
 }
 
-fn word(code: u32) -> bool {
-    if code == 1 {
-        io::write_all(1, b" YES ")
-    } else if code == 2 {
-        io::write_all(1, b" NO ")
-    } else if code == 3 {
-        io::write_all(1, b" UNDECIDED ")
-    } else if code == 4 {
-        io::write_all(1, b" UNKNOWN ")
-    } else if code == 5 {
-        io::write_all(1, b" UNFINISHED ")
-    } else {
-        io::write_all(1, b" refused ")
+fn word(code: u32) -> &'static str {
+    match code {
+        1 => "YES",
+        2 => "NO",
+        3 => "UNDECIDED",
+        4 => "UNKNOWN",
+        5 => "UNFINISHED",
+        _ => "refused",
     }
 }

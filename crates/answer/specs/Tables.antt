@@ -1,5 +1,5 @@
 -- What an answer leaves in the lent tables (document 01, "Answers").
-use Rattle.std.specs.Prelude.{List, ◌++◌, map, ℕ, length, drop, replicate}
+use Rattle.std.specs.Prelude.{List, ◌++◌, map, length, drop, replicate}
 use Rattle.tree.specs.Entries.{Entry}
 use Rattle.answer.specs.declared.Answer.{Answer}
 use Rattle.answer.specs.declared.Answer.TheVariants.{Yes, No, Undecided, Unknown, Unfinished, Refused}

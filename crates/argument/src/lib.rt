@@ -2,6 +2,5 @@
 // join the published and the computed ones.
 #![tactic(auto)]
 
-
 pub mod numbers;
 pub mod sets;

@@ -25,7 +25,6 @@ use Rattle.answer.specs.declared.Answer.TheVariants.{Yes, No, Unknown, Unfinishe
 use Rattle.answer.specs.Answer.{occurs, arguments_for, forest, warranted, answer_by}
 use Rattle.answer.proofs.Fittings.{F}
 use Rattle.nodes.specs.declared.Node.{Node}
-use Rattle.calls.specs.declared.Listed.{Listed}
 use Rattle.calls.specs.declared.Listed.TheVariants as lists
 use Rattle.calls.specs.Calls.{check_image, list_verdict, listed, list_table, query_verdict, queried, query_arguments}
 use Rattle.calls.specs.Calls.{query_column, query_nodes, check_call, list_call, trees_call, host_call}

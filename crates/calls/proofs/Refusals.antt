@@ -3,8 +3,8 @@
 use mathlib.Core.Path.{◌≡◌, refl, sym, ap, ◌∙◌, subst₂}
 use mathlib.Core.Bool.{Bool, true, false, false≢true}
 use mathlib.Core.List.{List}
-use mathlib.Core.Logic.{◌↔◌, ◌⊎◌, inl, inr, ⊎_elim}
-use Prim.Native.Nat.{ℕ, zero, suc, ◌+◌, ◌≤◌, ◌<◌}
+use mathlib.Core.Logic.{◌↔◌, inl, inr, ⊎_elim}
+use Prim.Native.Nat.{ℕ, zero, suc, ◌≤◌, ◌<◌}
 use native.Mathlib.Omega.{arith}
 use lib.ListN.{length}
 use lib.Dec.{T, ltb, leb, leb→le, le→leb, ltb→lt, lt→ltb, nltb→le, nleb→lt}
@@ -13,7 +13,7 @@ use Rattle.literals.proofs.Tests.{true_T, not_true_false}
 use Rattle.program.specs.Program.{Π}
 use Rattle.layout.specs.declared.Verdict.{Verdict}
 use Rattle.layout.specs.declared.Verdict.TheVariants.{Accepted, Refused}
-use Rattle.layout.specs.Layout.{atoms_of, rules_of, pairs_of_of, part_of, kind_byte}
+use Rattle.layout.specs.Layout.{atoms_of, rules_of, pairs_of_of, part_of}
 use Rattle.layout.specs.Causes.{refuse, and_then, bad_length, bad_counts, bad_directory, bad_size, bad_kind, bad_literal}
 use Rattle.layout.specs.Causes.{bad_body, bad_empty}
 use Rattle.layout.specs.Causes.{bad_seventeenth, bad_repeat, bad_pairs, bad_pair, bad_order}
@@ -32,7 +32,7 @@ use Rattle.calls.specs.Calls.{check_image, list_in, list_verdict, query_verdict,
 use Rattle.calls.specs.Causes.{OfRule, OfPair, InTurn, Earlier, by_number, Judged, RuleCause, PairCause, ImageCause}
 use Rattle.calls.specs.Causes.{ListCause, QueryCause, defeasible_before}
 use Rattle.calls.specs.Causes as causes
-use Rattle.calls.proofs.Verdicts.{Causes, Either, Only, only_to, Late, judged_one, judged_then, judged_same, Spans, only_spans}
+use Rattle.calls.proofs.Verdicts.{Causes, Either, Only, only_to, judged_one, judged_then, judged_same, Spans, only_spans}
 use Rattle.calls.proofs.Verdicts.{either_spans, Cut, late_cut, Turn, turn_one, turn_then, Of, From, from_none, from_judged}
 use Rattle.calls.proofs.Verdicts.{Sited, judged_once}
 

@@ -10,7 +10,7 @@ use Rattle.derivation.specs.Closure.{contradictory}
 use Rattle.argument.specs.List.{argument_list}
 use Rattle.tree.specs.Entries.{Entry}
 use Rattle.answer.specs.declared.Answer.{Answer}
-use Rattle.answer.specs.declared.Answer.TheVariants.{Yes, No, Undecided, Unknown, Unfinished, Refused}
+use Rattle.answer.specs.declared.Answer.TheVariants.{Refused}
 use Rattle.calls.specs.declared.Listed.{Listed}
 use Rattle.calls.specs.declared.Listed.TheVariants as lists
 use Rattle.calls.specs.declared.Written.{Written}

@@ -2,76 +2,82 @@
 // It links the derivation part and nothing above it.
 #![tactic(auto)]
 
+ghost use Rattle.std.specs.Prelude.{◌≤◌, length};
+
 use layout::Verdict;
 use literals::LiteralSet;
+use std::env::{Env, FillError};
+use std::io::{Print, Read};
+use std::rt::Files;
+use std::{fs, io};
 
-fn main() {
-    let count = os::arg_count();
-    if count < 2 {
-        from_file(0);
-        return;
+fn main(rt: HostRuntime) -> io::Result<()> {
+    let mut name = [0u8; 256];
+    if let Err(FillError::NotPresent) = rt.arg(1, &mut name) {
+        return from_file(&rt, &mut rt.stdin());
     }
-    let mut i = 1;
-    while i < count {
-        named(i);
-        i += 1;
+    for i in 1..usize::MAX {
+        match rt.arg(i, &mut name) {
+            Ok(length) => named(&rt, &name[..length])?,
+            Err(FillError::TooLong) => missing(&rt)?,
+            Err(FillError::NotPresent) => break,
+        }
+    }
+    Ok(())
+}
+
+// The file of a name. One that is longer than the buffer, or no text, names none.
+fn named<R: Files + Print>(rt: &R, name: &[u8]) -> io::Result<()> {
+    let Ok(path) = str::from_utf8(name) else {
+        return missing(rt);
+    };
+    match fs::open(rt, path) {
+        Ok(mut file) => from_file(rt, &mut file),
+        Err(_) => missing(rt),
     }
 }
 
-// The file with the name of argument i.
-fn named(i: usize) {
-    let mut name = [0u8; 256];
-    let length = os::arg(i, &mut name);
-    let file = os::open_read(&name[..length]);
-    if file < 0 {
-        io::write_all(1, b"no such file\n");
-        return;
-    }
-    from_file(file);
-    libc::close(file);
+fn missing(rt: &impl Print) -> io::Result<()> {
+    println!(rt; "no such file")
 }
 
 // An image has at most 1,836 bytes: of a longer file the first 2,048 are enough to refuse it.
-fn from_file(file: i32) {
+fn from_file(rt: &impl Print, file: &mut impl Read) -> io::Result<()> {
     let mut bytes = [0u8; 2048];
-    let length = io::read_full(file, &mut bytes);
-    strict_part(&bytes[..length]);
+    let length = fill(file, &mut bytes);
+    strict_part(rt, &bytes[..length])
+}
+
+// Reads to the end of the file, to a read that fails, or until the buffer is full.
+fn fill(file: &mut impl Read, buffer: &mut [u8]) -> usize
+    ensures { result ≤ length buffer.new }
+{
+    let mut length: usize = 0;
+    while length < buffer.len() {
+        match file.read(&mut buffer[length..]) {
+            Ok(0) => return length,
+            Ok(more) => length += more,
+            Err(_) => return length,
+        }
+    }
+    length
 }
 
 // One line: the literals that the facts and strict rules derive, ascending, or why the image is refused.
-fn strict_part(image: &[u8]) {
+fn strict_part(rt: &impl Print, image: &[u8]) -> io::Result<()> {
     let mut table = [0u64; 419];
     match image::read(image, &mut table) {
-        Verdict::Refused { number, place } => refused(number, place),
-        Verdict::Accepted => literals_of(derivation::close(&table, 0, LiteralSet::empty())),
+        Verdict::Refused { number, place } => println!(rt; "refused {number} {place}"),
+        Verdict::Accepted => literals_of(rt, derivation::close(&table, 0, LiteralSet::empty())),
     }
 }
 
-fn refused(number: u32, place: u32) {
-    io::write_all(1, b"refused ");
-    io::print_decimal(1, number as u64);
-    io::write_all(1, b" ");
-    io::print_decimal(1, place as u64);
-    io::write_all(1, b"\n");
-}
-
-fn literals_of(set: LiteralSet) {
-    io::write_all(1, b"derived");
-    each(set);
-    io::write_all(1, b"\n");
-}
-
-fn each(set: LiteralSet) {
-    let mut literal: u64 = 0;
-    while literal < 128 {
+fn literals_of(rt: &impl Print, set: LiteralSet) -> io::Result<()> {
+    print!(rt; "derived")?;
+    for literal in 0..128u64 {
         if set.has(literal) {
-            one(literal);
+            print!(rt; " {literal}")?;
         }
-        literal += 1;
     }
-}
-
-fn one(literal: u64) {
-    io::write_all(1, b" ");
-    io::print_decimal(1, literal);
+    println!(rt; "")
 }

@@ -1,20 +1,20 @@
 -- The masks under which an atom clashes, one atom at a time, and word by word.
 use mathlib.Core.Path.{◌≡◌, refl, sym, ap, ap₂, ◌∙◌, subst}
-use mathlib.Core.Bool.{Bool, true, false, not, ◌&&◌, ◌||◌, false≢true}
+use mathlib.Core.Bool.{true, false, not, ◌||◌, false≢true}
 use mathlib.Core.List.{List}
-use mathlib.Core.Logic.{◌⊎◌, inl, inr, ⊎_elim}
-use Prim.Native.Nat.{ℕ, ◌+◌, ◌-◌, ◌*◌, ◌%◌, ◌^◌, ◌<◌, ◌≤◌}
+use mathlib.Core.Logic.{◌⊎◌, inl, inr}
+use Prim.Native.Nat.{ℕ, ◌+◌, ◌-◌, ◌%◌, ◌^◌, ◌<◌, ◌≤◌}
 use native.Mathlib.Nat.{eq-or-lt_of_le}
 use native.Mathlib.Decide.{ℕ_discrete, dec_lt}
 use native.Mathlib.Omega.{arith}
-use lib.Bits.{bit_and, and_le_r, and_le_l}
+use lib.Bits.{bit_and, and_le_r}
 use lib.Dec.{eqb}
 use lib.ListN.{length, get_or, set, length-set}
 use lib.Seq.{get_or-set_same, get_or-set_other}
 use borrow.Author.Tests.{ne_eqb}
 use Rattle.literals.specs.Sets.{has, minus, union, within}
 use Rattle.literals.specs.Inside.Words.{joined}
-use Rattle.literals.proofs.Tests.{and_intro, and_left, and_right, or_left, or_right, or_cases}
+use Rattle.literals.proofs.Tests.{and_intro, and_left, and_right, or_left, or_right}
 use Rattle.literals.proofs.Members.{has_bound, has_empty, has_cases, has_and, has_union, has_minus_power}
 use Rattle.literals.proofs.Words.{has_joined_low, has_joined_high}
 use Rattle.rows.proofs.Submasks.{next_submask}

@@ -3,23 +3,23 @@ use mathlib.Core.Path.{◌≡◌, refl, sym, ap, ap₂, ◌∙◌, subst}
 use mathlib.Core.Bool.{Bool, true, false, not, ◌&&◌, ◌||◌, false≢true}
 use mathlib.Core.List.{List}
 use mathlib.Core.Logic.{◌⊎◌, inl, inr, ⊎_elim}
-use Prim.Native.Nat.{ℕ, ◌+◌, ◌*◌, ◌/◌, ◌%◌, ◌^◌, ◌<◌, ◌≤◌}
+use Prim.Native.Nat.{ℕ, ◌+◌, ◌*◌, ◌/◌, ◌%◌, ◌^◌, ◌<◌}
 use native.Mathlib.Decide.{dec_lt}
 use native.Mathlib.Omega.{arith}
 use lib.Bits.{bit_and, and_le_r}
 use lib.ListN.{length, get_or}
-use Rattle.literals.specs.Sets.{has, minus, union, within}
+use Rattle.literals.specs.Sets.{has, within}
 use Rattle.literals.proofs.Tests.{same_test, and_right}
-use Rattle.literals.proofs.Members.{has_bound, has_empty, has_cases, has_minus}
+use Rattle.literals.proofs.Members.{has_empty, has_cases, has_minus}
 use Rattle.literals.proofs.Within.{within_empty}
 use Rattle.literals.proofs.Clashes.{Pair, clash_pair, pair_clash}
-use Rattle.program.specs.Program.{Rule, Program, Π_mask}
+use Rattle.program.specs.Program.{Program, Π_mask}
 use Rattle.derivation.specs.Closure.{closure, derives, contradictory}
-use Rattle.rows.specs.Layout.{word_of, row_has, Rows}
+use Rattle.rows.specs.Layout.{row_has}
 use Rattle.rows.proofs.Patterns.{has_all}
 use Rattle.rows.proofs.Views.{cut_twice, cut_within}
 use Rattle.closures.specs.Inside.Table.{begins_at, keeps_at, word_at, tells, Laid, Tells}
-use Rattle.closing.specs.Inside.Plan.{Reach, Planned, PlanOf, RowsSay}
+use Rattle.closing.specs.Inside.Plan.{Planned, PlanOf, RowsSay}
 use Rattle.closing.specs.Inside.Steps.{Header, ClashWord, ClashRow}
 use Rattle.closing.proofs.Masks.{plan_derivable}
 use Rattle.closing.proofs.Clashings.{laid_same, word_same, begins_same, keeps_same}

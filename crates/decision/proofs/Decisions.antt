@@ -1,20 +1,19 @@
 -- From the forest to the answer and what it leaves in the four tables.
 use mathlib.Core.Path.{◌≡◌, refl, sym, ap, ap₂, ◌∙◌, subst}
 use mathlib.Core.Bool.{Bool, true, false}
-use mathlib.Core.List.{List, ◌++◌, map}
+use mathlib.Core.List.{List, ◌++◌}
 use Prim.Native.Nat.{ℕ, ◌+◌, ◌≤◌, ◌<◌}
 use native.Mathlib.Nat.{le_trans}
 use native.Mathlib.Omega.{arith}
 use lib.Dec.{ltb}
 use borrow.Author.Tests.{lt-ltb, le-ltb, ltb-true, ltb-false}
 use lib.ListN.{length, take, drop, replicate, length-replicate}
-use lib.Seq.{sets}
 use Rattle.program.specs.Program.{Program}
 use Rattle.program.specs.Inside.Table.{Holds}
 use Rattle.derivation.specs.Derivation.{complement}
 use Rattle.excluded.specs.Inside.Exclusions.{Excluded, Conclusions}
 use Rattle.tree.specs.Entries.{Entry}
-use Rattle.tree.specs.Inside.Tables.{Columns, columns, written, past, Hold, Built}
+use Rattle.tree.specs.Inside.Tables.{Columns, written, past, Hold, Built}
 use Rattle.tree.specs.Inside.Steps.{Prepared}
 use Rattle.tree.specs.Inside.Roots.{RootsReady, ForestBuilt}
 use Rattle.tree.proofs.Tables.{column_front, columns_same}
@@ -23,7 +22,7 @@ use Rattle.answer.specs.declared.Answer.TheVariants.{Yes, Unknown, Unfinished}
 use Rattle.answer.specs.Answer.{occurs, node_count, forest_entries, warranted, answer_of, answer_by, tests, answer}
 use Rattle.answer.specs.Tables.{front}
 use Rattle.answer.specs.Inside.Columns.{columns_after, cleared, cleared_if}
-use Rattle.decision.specs.Inside.Steps.{Held, Asked, Listing, Decidable, Decided}
+use Rattle.decision.specs.Inside.Steps.{Held, Asked, Listing, Decided}
 use Rattle.answer.proofs.Answers.{entries_count}
 use Rattle.outcome.proofs.Concluded.{Concluded}
 

@@ -1,8 +1,8 @@
 -- A literal's atom in a row of the rule table, and in the rules from one on.
-use mathlib.Core.Path.{◌≡◌, refl, sym, ap, ap₂, ◌∙◌, subst}
+use mathlib.Core.Path.{◌≡◌, refl, sym, ap, ap₂, ◌∙◌}
 use mathlib.Core.Bool.{Bool, true, false, ◌||◌}
-use mathlib.Core.List.{List, [], ◌∷◌, Memᴰ}
-use mathlib.Core.Logic.{◌⊎◌, inl, inr, ⊎_elim}
+use mathlib.Core.List.{List, Memᴰ}
+use mathlib.Core.Logic.{⊎_elim}
 use Prim.Native.Nat.{ℕ, zero, suc, ◌+◌, ◌*◌, ◌/◌, ◌%◌, ◌≤◌, ◌<◌}
 use native.Mathlib.Omega.{arith}
 use lib.ListN.{length, drop, drop_of_length-le}
@@ -16,7 +16,7 @@ use Rattle.literals.proofs.Tests.{true_T, T_true, same_test, or_left, or_right, 
 use Rattle.literals.proofs.Members.{has_empty}
 use Rattle.literals.proofs.Lists.{insert_all_cases, has_insert_all}
 use Rattle.program.specs.Program.{Rule, Program, fact, rule_at}
-use Rattle.program.specs.Inside.Table.{head_at, body_at, Row, Holds}
+use Rattle.program.specs.Inside.Table.{head_at, body_at, Row}
 use Rattle.answer.specs.Answer.{occurs}
 use Rattle.decision.specs.Inside.Steps.{stands_in}
 

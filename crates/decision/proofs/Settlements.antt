@@ -5,11 +5,10 @@ use mathlib.Core.List.{List, ◌++◌}
 use Prim.Native.Nat.{ℕ, ◌≤◌}
 use native.Mathlib.Omega.{arith}
 use lib.Dec.{leb}
-use lib.ListN.{length, take, drop, length-append, length-drop}
+use lib.ListN.{length, take, drop, length-append}
 use lib.Seq.{take-append_seam}
 use Rattle.lists.specs.Lists.{choose}
 use Rattle.program.specs.Program.{Program}
-use Rattle.listing.specs.declared.Listed.{Listed}
 use Rattle.listing.specs.declared.Listed.TheVariants.{Count, Over}
 use Rattle.argument.specs.List.{argument_list}
 use Rattle.listing.specs.Inside.Listing.{listed, with_list}
@@ -18,7 +17,7 @@ use Rattle.tree.specs.Inside.Tables.{Columns}
 use Rattle.answer.specs.declared.Answer.{Answer}
 use Rattle.answer.specs.declared.Answer.TheVariants.{Refused}
 use Rattle.answer.specs.Answer.{answer}
-use Rattle.decision.specs.Inside.Steps.{Held, Listing, Decided, settled, Settled}
+use Rattle.decision.specs.Inside.Steps.{Held, Listing, Decided, Settled}
 
 -- ---- what the list's result says
 

@@ -2,7 +2,6 @@
 // lent tables. The program may come from an image or from anywhere.
 #![tactic(auto)]
 
-
 mod answering;
 mod occurrence;
 pub mod sized;

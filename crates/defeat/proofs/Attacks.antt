@@ -1,10 +1,10 @@
 -- Which sub-arguments a listed argument attacks, as the table of rows and the exclusion table tell it, and the kind that
 -- follows.
-use mathlib.Core.Path.{◌≡◌, refl, sym, ap, ap₂, ◌∙◌, subst}
+use mathlib.Core.Path.{◌≡◌, sym, ap, ap₂, ◌∙◌, subst}
 use mathlib.Core.Bool.{Bool, true, false, ◌&&◌, false≢true}
-use mathlib.Core.List.{List, [], ◌∷◌, Memᴰ}
+use mathlib.Core.List.{List, ◌∷◌, Memᴰ}
 use mathlib.Core.Logic.{⊎_elim}
-use Prim.Native.Nat.{ℕ, zero, suc, ◌+◌, ◌*◌, ◌^◌, ◌<◌, ◌≤◌}
+use Prim.Native.Nat.{ℕ, ◌+◌, ◌^◌, ◌<◌, ◌≤◌}
 use native.Mathlib.Numerals.{add-one}
 use native.Mathlib.Decide.{dec_lt}
 use native.Mathlib.Omega.{arith}
@@ -19,7 +19,7 @@ use Rattle.literals.specs.Sets.{has, within, meets}
 use Rattle.literals.proofs.Tests.{true_T, same_test, not_true_false, and_intro, and_left, and_right}
 use Rattle.literals.proofs.Members.{has_bound, has_cases, has_empty}
 use Rattle.literals.proofs.Within.{within_each, each_within, within_le, meets_both, both_meets}
-use Rattle.program.specs.Program.{Rule, Program, defeasibles, Π_mask}
+use Rattle.program.specs.Program.{Rule, Program, Π_mask}
 use Rattle.program.specs.Limits.{Limits, Mask}
 use Rattle.derivation.specs.Closure.{contradictory, excludes}
 use Rattle.derivation.proofs.Contradictions.{excludes_sym, excludes_derived}

@@ -1,6 +1,6 @@
 -- Attack and defeat between the arguments of a program, at any preference between masks: as published, and as tests that
 -- evaluate. An argument is its entry in the argument list, M × 128 + h.
-use Rattle.std.specs.Prelude.{Bool, not, List, [], ◌∷◌, ℕ}
+use Rattle.std.specs.Prelude.{Bool, not, List, ◌∷◌, ℕ}
 use Rattle.lists.specs.Lists.{any}
 use Rattle.literals.specs.Sets.{has, within}
 use Rattle.program.specs.Program.{Rule, Program, fact, Π_with, Π}

@@ -4,7 +4,7 @@ use mathlib.Core.Bool.{true, not, ◌||◌}
 use mathlib.Core.List.Memᴰ
 use mathlib.Core.List.{List, [], ◌∷◌, Memᴰ}
 use mathlib.Core.Logic.{⊎_elim}
-use Prim.Native.Nat.{ℕ, suc, ◌*◌, ◌^◌, ◌<◌, ◌≤◌}
+use Prim.Native.Nat.{ℕ, suc, ◌^◌, ◌<◌}
 use native.Mathlib.Omega.{arith}
 use lib.ListN.{length}
 use borrow.Author.Tests.{eq-eqb}
@@ -15,7 +15,7 @@ use Rattle.literals.proofs.Members.{has_power, has_bit}
 use Rattle.literals.proofs.Within.{within_each, each_within, within_empty}
 use Rattle.program.specs.Program.{Kind, strict, defeasible, Rule, Program, is_defeasible, rule_at}
 use Rattle.program.specs.Limits.{Limits}
-use Rattle.program.specs.Inside.Table.{head_at, rule_count, need_of, Holds, Shaped}
+use Rattle.program.specs.Inside.Table.{need_of, Holds, Shaped}
 use Rattle.derivation.specs.Derivation.{HeadsBelow}
 use Rattle.derivation.proofs.Choices.{Π_with_rules, Π_with_at}
 

@@ -1,6 +1,6 @@
 -- The leaf with literals as switches: what it asks, and what rows that it has filled say of Π.
 use mathlib.Core.Path.{◌≡◌, sym, ap, ap₂, ◌∙◌, subst}
-use mathlib.Core.Bool.{Bool, true, false, not, ◌&&◌, ◌||◌, false≢true}
+use mathlib.Core.Bool.{Bool, true, false, ◌&&◌, ◌||◌, false≢true}
 use mathlib.Core.List.{List}
 use mathlib.Core.Logic.{◌⊎◌, inl, inr, ⊎_elim}
 use Prim.Native.Nat.{ℕ, ◌+◌, ◌*◌, ◌/◌, ◌%◌, ◌^◌, ◌<◌}
@@ -22,7 +22,7 @@ use Rattle.rows.specs.Layout.{row_has, HeadWord, Rows, Placed, Bearing}
 use Rattle.excluded.specs.Inside.Exclusions.{excluded_by, Excluded}
 use Rattle.excluded.specs.Inside.Strict.{StrictRules, Reduced, Laid}
 use Rattle.excluded.specs.Inside.Rows.{reaches, Begun, Reached, RowOf, Joined}
-use Rattle.excluded.specs.Inside.Joint.{crosses, CrossAt, Crossed, Coherent, Solid, Unspread, PairAt, Pairs, Copied}
+use Rattle.excluded.specs.Inside.Joint.{CrossAt, Crossed, Coherent, Solid, Unspread, PairAt, Pairs, Copied}
 use Rattle.excluded.proofs.RowWords.{row_reaches, row_same, row_bit, stored_low, stored_high, stored_others}
 use Rattle.excluded.proofs.Eaches.{Sets}
 

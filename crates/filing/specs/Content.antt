@@ -1,6 +1,6 @@
 -- "the same atom count, the same rules and the same listed pairs between those rules" (document 02, C-12)
 use Rattle.std.specs.Prelude.{◌≡◌, ℕ}
-use mathlib.Core.List.{List, Memᴰ}
+use mathlib.Core.List.{Memᴰ}
 use Rattle.lists.specs.Lists.{Within}
 use Rattle.program.specs.Program.{Rule, Program, rule_at}
 

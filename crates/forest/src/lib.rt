@@ -2,5 +2,4 @@
 // the steps of crate `turns`. What is written is defined in the crate `tree`.
 #![tactic(auto)]
 
-
 pub mod roots;

@@ -12,7 +12,6 @@ use lib.ListN.{length}
 use lib.Dec.{ltb, eqb}
 use borrow.Author.Tests.{eqb-true, eq-eqb, ne_eqb, lt-ltb, le-ltb, ltb-false, not-false}
 use Rattle.literals.proofs.Tests.{and_left, and_right}
-use Rattle.layout.specs.declared.Verdict.TheVariants.{Refused}
 use Rattle.layout.specs.declared.header.Header.TheVariants as header
 use Rattle.layout.specs.Layout.{number_at, atoms_of, rules_of, pairs_of_of, offset_of, size_of}
 use Rattle.layout.specs.Causes.{refuse, and_then, bad_length, bad_counts, parts_follow, bad_directory}

@@ -4,7 +4,7 @@ use Rattle.std.specs.Prelude.{Bool, true, false, not, ◌&&◌, ◌||◌, List, 
 use Rattle.lists.specs.Lists.{choose}
 use Rattle.layout.specs.declared.Verdict.{Verdict}
 use Rattle.layout.specs.declared.Verdict.TheVariants.{Accepted, Refused}
-use Rattle.layout.specs.Layout.{byte_at, number_at, atoms_of, rules_of, pairs_of_of, offset_of, size_of, part_of, kind_byte, body_bytes, first_of, second_of}
+use Rattle.layout.specs.Layout.{number_at, atoms_of, rules_of, pairs_of_of, offset_of, size_of, part_of, kind_byte, body_bytes, first_of, second_of}
 
 -- document 01's number of the cause that a verdict names, and the cause's place: of one that accepts, neither
 abbrev pub cause_of : Verdict → ℕ

@@ -1,7 +1,7 @@
 -- The program that an accepted image holds.
-use Rattle.std.specs.Prelude.{Bool, true, false, List, [], ◌∷◌, ℕ, zero, suc, eqb}
+use Rattle.std.specs.Prelude.{List, [], ◌∷◌, ℕ, zero, suc, eqb}
 use Rattle.lists.specs.Lists.{choose}
-use Rattle.program.specs.Program.{Kind, strict, defeasible, Rule, Program}
+use Rattle.program.specs.Program.{strict, defeasible, Rule, Program}
 use Rattle.layout.specs.Layout.{atoms_of, rules_of, pairs_of_of, part_of, kind_byte, head_byte, body_bytes, first_of, second_of}
 
 -- "a kind byte (0 strict, 1 defeasible), a head literal, then 0 to 8 body literals"

@@ -5,20 +5,19 @@ use mathlib.Core.List.{List}
 use mathlib.Core.Logic.{◌⊎◌, inl, inr, ⊎_elim}
 use Prim.Native.Nat.{ℕ, ◌+◌, ◌*◌, ◌^◌, ◌<◌, ◌≤◌}
 use native.Mathlib.Nat.{eq-or-lt_of_le}
-use native.Mathlib.Decide.{ℕ_discrete, dec_lt}
 use native.Mathlib.Omega.{arith}
-use lib.Count.{ones, ones-le}
-use lib.ListN.{length, get_or, set, length-set}
+use lib.Count.{ones-le}
+use lib.ListN.{length, get_or, set}
 use lib.Seq.{get_or-set_same, get_or-set_other}
 use Rattle.literals.specs.Sets.{has, insert, minus, within, meets}
 use Rattle.literals.specs.Inside.Words.{set_of}
 use Rattle.literals.specs.declared.LiteralSet.{LiteralSet}
 use Rattle.literals.proofs.Tests.{and_left, and_right}
-use Rattle.literals.proofs.Members.{has_empty, has_bound, has_minus, insert_cases, has_insert_same, insert_keeps, insert_below}
+use Rattle.literals.proofs.Members.{has_empty, insert_cases, has_insert_same, insert_keeps, insert_below}
 use Rattle.literals.proofs.Within.{within_each, within_insert, ones_more, meets_both}
 use Rattle.program.specs.Inside.Table.{head_at, body_at, need_at, rule_count, Shaped}
 use Rattle.program.specs.Inside.Store.{with_row, with_counts}
-use Rattle.program.proofs.Stores.{beside_row, beside_rows, row_beside, row_head, row_body, row_need, row_length}
+use Rattle.program.proofs.Stores.{beside_row, row_beside, row_head, row_body, row_need, row_length}
 use Rattle.rows.specs.Switched.{Named, NeedsOne}
 use Rattle.live.specs.Live.{live_at, LiveRow, LiveRules}
 use Rattle.live.specs.Steps.{Taken, TakenTo}

@@ -2,7 +2,6 @@
 use Rattle.std.specs.Prelude.{◌≡◌, true, List, ℕ, ◌^◌, ◌<◌, ◌≤◌, length}
 use Rattle.std.specs.Int.Count.{ones}
 use Rattle.literals.specs.Sets.{has}
-use Rattle.program.specs.Inside.Table.{rule_count}
 use Rattle.live.specs.Live.{live_at, LiveRow}
 
 -- the first n rows of u are the rules of taken

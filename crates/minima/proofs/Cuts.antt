@@ -1,7 +1,7 @@
 -- The minimal masks of a word: cut by the words without one bit of its number, and by its own places without one bit.
 use mathlib.Core.Path.{◌≡◌, refl, sym, ap, ap₂, ◌∙◌, subst}
 use mathlib.Core.Bool.{Bool, true, false, not, ◌&&◌, ◌||◌, false≢true}
-use mathlib.Core.Logic.{◌⊎◌, inl, inr, ⊎_elim}
+use mathlib.Core.Logic.{⊎_elim}
 use Prim.Native.Nat.{ℕ, zero, suc, ◌+◌, ◌-◌, ◌*◌, ◌/◌, ◌%◌, ◌^◌, ◌<◌, ◌≤◌}
 use native.Mathlib.Nat.{eq-or-lt_of_le}
 use native.Mathlib.Decide.{dec_lt, ℕ_discrete}
@@ -10,7 +10,7 @@ use lib.Dec.{eqb}
 use lib.Pow.{pow-add}
 use borrow.Author.Tests.{ne_eqb}
 use Rattle.literals.specs.Sets.{has, minus}
-use Rattle.literals.proofs.Tests.{and_intro, and_left, and_right, or_left, or_right, or_cases, not_true_false}
+use Rattle.literals.proofs.Tests.{and_intro, and_left, and_right, not_true_false}
 use Rattle.literals.proofs.Bits.{bit_le}
 use Rattle.literals.proofs.Members.{has_bit, has_empty, has_minus, has_minus_power, minus_power}
 use Rattle.rows.proofs.Patterns.{has_place, has_block}

@@ -1,20 +1,19 @@
 -- Places in a word: a shift moves each of them up, and takes a bit away from the one that has it.
-use mathlib.Core.Path.{◌≡◌, refl, sym, ap, ap₂, ◌∙◌, subst}
+use mathlib.Core.Path.{◌≡◌, refl, sym, ap, ap₂, ◌∙◌}
 use mathlib.Core.Bool.{Bool, true, false, not, ◌&&◌, ◌||◌, false≢true}
-use mathlib.Core.Logic.{◌⊎◌, inl, inr, ⊎_elim}
-use Prim.Native.Nat.{ℕ, zero, suc, ◌+◌, ◌-◌, ◌*◌, ◌/◌, ◌%◌, ◌^◌, ◌<◌, ◌≤◌}
+use Prim.Native.Nat.{ℕ, ◌+◌, ◌-◌, ◌*◌, ◌/◌, ◌%◌, ◌^◌, ◌<◌, ◌≤◌}
 use native.Mathlib.Decide.{dec_lt}
 use native.Mathlib.Nat.{add-zero}
 use native.Mathlib.Omega.{arith}
-use lib.Bits.{bit_and, bit_or}
+use lib.Bits.{bit_or}
 use lib.Dec.{eqb}
-use lib.Pow.{split, pow_pos, pow-lt, pow_mono}
+use lib.Pow.{split, pow_pos}
 use borrow.Author.Tests.{eq-eqb}
 use Rattle.lists.specs.Lists.{choose}
-use Rattle.literals.specs.Sets.{bit, has, insert, minus}
+use Rattle.literals.specs.Sets.{has, insert, minus}
 use Rattle.literals.proofs.Tests.{same_test, and_intro, and_left, and_right, not_true_false}
 use Rattle.literals.proofs.Bits.{bit_low, bit_high, bit_le}
-use Rattle.literals.proofs.Members.{has_bit, has_empty, has_cases, has_minus, minus_power, has_minus_power, has_insert_same, has_union}
+use Rattle.literals.proofs.Members.{has_bit, has_empty, has_minus, minus_power, has_minus_power, has_insert_same, has_union}
 use Rattle.minima.specs.Steps.{Lowered, less_below}
 
 has_low : (h w n k : ℕ) → k < n → has (h * 2 ^ n + w) k ≡ has w k

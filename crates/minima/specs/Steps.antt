@@ -1,5 +1,5 @@
 -- What the private steps of the code compute.
-use Rattle.std.specs.Prelude.{◌≡◌, Bool, true, false, ◌&&◌, ◌||◌, ℕ, zero, suc, ◌+◌, ◌*◌, ◌^◌, ◌<◌}
+use Rattle.std.specs.Prelude.{◌≡◌, Bool, true, false, ◌&&◌, ◌||◌, ℕ, zero, suc, ◌^◌, ◌<◌}
 use Rattle.literals.specs.Sets.{has, minus}
 
 -- x has the places of s at which the words without one bit of the number i, one that is a member of left, have nothing

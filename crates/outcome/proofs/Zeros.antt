@@ -1,9 +1,9 @@
 -- A table whose first entries are all the same, one entry more at a time.
-use mathlib.Core.Path.{◌≡◌, refl, sym, ap, ◌∙◌}
+use mathlib.Core.Path.{◌≡◌, refl, ap, ◌∙◌}
 use mathlib.Core.List.{List, [], ◌∷◌}
 use Prim.Native.Nat.{ℕ, zero, suc, ◌+◌, ◌≤◌, ◌<◌}
 use native.Mathlib.Omega.{arith}
-use lib.ListN.{length, set, drop, replicate, length-append, length-drop, length-replicate}
+use lib.ListN.{length, set, replicate, length-append, length-drop, length-replicate}
 use Rattle.tree.specs.Inside.Tables.{Columns, columns}
 use Rattle.tree.proofs.Tables.{columns_same}
 use Rattle.answer.specs.Tables.{front}

@@ -1,7 +1,7 @@
 -- What the steps of the code do to the words of a plan.
 use Rattle.std.specs.Prelude.{◌≡◌, Bool, true, false, List, ℕ, ◌+◌, ◌*◌, ◌/◌, ◌^◌, ◌<◌, ◌≤◌, length, get_or}
 use Rattle.literals.specs.Sets.{has, within}
-use Rattle.program.specs.Inside.Table.{head_at, body_at, need_at, rule_count}
+use Rattle.program.specs.Inside.Table.{head_at, body_at, need_at}
 use Rattle.rows.specs.Steps.{slack}
 
 -- each row keeps fewer than 1,024 words

@@ -1,6 +1,6 @@
 -- What a program is (document 01, "The program image" and "Derivation and arguments"). No byte of an image stands here:
 -- a program may come from anywhere.
-use Rattle.std.specs.Prelude.{Bool, true, false, ◌&&◌, ◌||◌, not, List, [], ◌∷◌, ℕ, zero, suc, ◌^◌, get_or, take}
+use Rattle.std.specs.Prelude.{Bool, true, false, ◌&&◌, ◌||◌, not, List, [], ◌∷◌, ℕ, suc, get_or, take}
 use Rattle.lists.specs.Lists.{keep}
 use Rattle.literals.specs.Sets.{has}
 

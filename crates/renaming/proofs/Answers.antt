@@ -7,7 +7,7 @@ use mathlib.Core.List.{List, ◌++◌, map, Permᴰ}
 use mathlib.Core.Logic.{⊎_elim}
 use Prim.Native.Nat.{ℕ}
 use lib.Dec.{eqb, ltb}
-use Rattle.lists.specs.Lists.{Within, any, filter}
+use Rattle.lists.specs.Lists.{Within, filter}
 use Rattle.lists.proofs.Lists.{filter_found}
 use Rattle.lists.proofs.Decides.{decides_iff, decides_same}
 use Rattle.lists.proofs.Places.{map-append}

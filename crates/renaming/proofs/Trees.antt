@@ -8,12 +8,12 @@ use mathlib.Core.List.{Permᴰ}
 use mathlib.Core.Logic.{⊎_elim}
 use Prim.Native.Nat.{ℕ, zero, suc, ◌+◌}
 use native.Mathlib.Omega.{arith}
-use Rattle.lists.specs.Lists.{Within, all}
+use Rattle.lists.specs.Lists.{Within}
 use Rattle.lists.proofs.Lists.{any_filter, within_cons}
 use Rattle.lists.proofs.Permutations.{fold, fold_match, any_match, filter_match, all_map, and_swap}
 use Rattle.defeat.specs.Tests.{Tests, kind_of, attacked, proper, neither, blocking, kind}
 use Rattle.tree.specs.Reply.{mine, theirs, permit, unused, may_follow, joins, reply_kind}
-use Rattle.tree.specs.Forest.{Forest, tree, size, all_defeated, pick, from, replies_to, remaining, replies, forest_of, undefeated_root}
+use Rattle.tree.specs.Forest.{Forest, size, all_defeated, pick, from, replies_to, remaining, replies, forest_of, undefeated_root}
 use Rattle.renaming.specs.Inside.Tests.{SameTests}
 
 -- ---- the candidates' trees: sum and conjunction

@@ -9,13 +9,11 @@ use lib.Dec.{eqb, leb}
 use lib.ListN.{length, take}
 use lib.Seq.{length-take-le}
 use borrow.Author.Tests.{ne_eqb, le-leb, lt-leb}
-use Rattle.lists.specs.Lists.{choose}
 use Rattle.layout.specs.declared.Verdict.{Verdict}
 use Rattle.layout.specs.declared.Verdict.TheVariants.{Accepted, Refused}
 use Rattle.layout.specs.Layout.{rules_of}
 use Rattle.layout.specs.Causes.{cause_of}
 use Rattle.writing.specs.Image.{Bytes}
-use Rattle.calls.specs.declared.Written.{Written}
 use Rattle.calls.specs.declared.Written.TheVariants as written
 use Rattle.calls.specs.Calls.{check_image, front, written_by}
 use Rattle.filing.specs.Calls.{filed_image, file_verdict, filed_by, file_table, file_numbers, typed_image, unfile_verdict, unfiled_by, unfile_table}

@@ -3,16 +3,16 @@ use mathlib.Core.Path.{◌≡◌, refl, sym, ap, ◌∙◌, subst}
 use mathlib.Core.Bool.{Bool, true, false, false≢true}
 use mathlib.Core.List.{List}
 use mathlib.Core.Logic.{◌⊎◌, inl}
-use Prim.Native.Nat.{ℕ, ◌+◌, ◌*◌, ◌/◌, ◌%◌, ◌<◌, ◌≤◌}
+use Prim.Native.Nat.{ℕ, ◌+◌, ◌*◌, ◌/◌, ◌%◌, ◌<◌}
 use native.Mathlib.Omega.{arith}
 use lib.Bits.{bit_and}
 use lib.ListN.{length, get_or}
 use Rattle.lists.specs.Lists.{choose}
 use Rattle.literals.specs.Sets.{has, within}
 use Rattle.literals.proofs.Within.{within_refl, within_each, within_trans}
-use Rattle.program.specs.Inside.Table.{head_at, body_at, need_at, rule_count}
-use Rattle.rows.specs.Switched.{Named, ClosedIn}
-use Rattle.rows.specs.Layout.{word_of, row_has, HeadWord, Rows, Bearing}
+use Rattle.program.specs.Inside.Table.{head_at, need_at, rule_count}
+use Rattle.rows.specs.Switched.{ClosedIn}
+use Rattle.rows.specs.Layout.{word_of, HeadWord, Rows, Bearing}
 use Rattle.rows.specs.Steps.{Idle, slack, Sound, Rounds}
 use Rattle.rows.proofs.Firings.{changed_then}
 use Rattle.rows.proofs.Patterns.{need_cut}

@@ -5,7 +5,7 @@ use mathlib.Core.List.{List}
 use mathlib.Core.Logic.{◌⊎◌, inl, inr, ⊎_elim}
 use Prim.Native.Nat.{ℕ, ◌+◌, ◌-◌, ◌*◌, ◌/◌, ◌^◌, ◌<◌, ◌≤◌}
 use native.Mathlib.Nat.{le_trans, lt_of_lt_of_le, lt_of_le_of_lt}
-use native.Mathlib.Decide.{ℕ_discrete, dec_lt}
+use native.Mathlib.Decide.{ℕ_discrete}
 use native.Mathlib.Omega.{arith}
 use lib.Bits.{bit_and, and_le_r}
 use lib.ListN.{length, get_or, set, length-set}
@@ -19,7 +19,7 @@ use Rattle.literals.proofs.Within.{within_each, within_refl, within_trans, withi
 use Rattle.program.specs.Inside.Table.{head_at, body_at, need_at, rule_count}
 use Rattle.rows.specs.Switched.{Named, ClosedIn}
 use Rattle.rows.specs.Layout.{word_of, HeadWord, Placed, Bearing}
-use Rattle.rows.specs.Steps.{Met, BodyAt, Ready, Idle, slack, SoundAt, Sound, Readable, Decoded, Fires, OneWord, Above, Rounds}
+use Rattle.rows.specs.Steps.{Met, BodyAt, Ready, Idle, SoundAt, Readable, Decoded, Fires, OneWord, Above, Rounds}
 use Rattle.rows.proofs.Patterns.{need_word, mask_more}
 use Rattle.rows.proofs.Meets.{in_words, ready_met}
 use Rattle.rows.proofs.Words.{slack_set, union_more}

@@ -1,8 +1,8 @@
 -- The masks for which f has each literal of a body.
-use mathlib.Core.Path.{◌≡◌, refl, sym, ap, ◌∙◌, subst}
-use mathlib.Core.Bool.{Bool, true, false, not, ◌&&◌, false≢true}
+use mathlib.Core.Path.{◌≡◌, sym, ap, ◌∙◌, subst}
+use mathlib.Core.Bool.{true, not, ◌&&◌, false≢true}
 use mathlib.Core.List.{List}
-use Prim.Native.Nat.{ℕ, ◌+◌, ◌-◌, ◌*◌, ◌/◌, ◌^◌, ◌<◌, ◌≤◌}
+use Prim.Native.Nat.{ℕ, ◌+◌, ◌-◌, ◌/◌, ◌^◌, ◌<◌}
 use native.Mathlib.Decide.{ℕ_discrete, dec_lt}
 use native.Mathlib.Omega.{arith}
 use lib.Bits.{bit_and}
@@ -14,8 +14,7 @@ use Rattle.literals.proofs.Tests.{and_intro, and_left, and_right}
 use Rattle.literals.proofs.Members.{has_and, has_empty, has_bound, has_minus_power}
 use Rattle.literals.proofs.Words.{has_joined_low, has_joined_high}
 use Rattle.program.specs.Inside.Table.{body_at, need_at}
-use Rattle.rows.specs.Steps.{LowWord, Met, BodyAt, Ready}
-use Rattle.rows.proofs.Patterns.{need_word}
+use Rattle.rows.specs.Steps.{LowWord, Met, Ready}
 
 -- with no literal left, and with one literal more
 pub met_none : (f : ℕ → ℕ) (word first s x : ℕ) → word ≡ 0 → x ≡ s → Met f word first s x

@@ -1,7 +1,7 @@
 -- In which masks from 64 w on a need is: bit b of the mask 64 w + k is bit b of k, or bit b - 6 of w.
 use mathlib.Core.Path.{◌≡◌, refl, sym, ap, ◌∙◌, subst}
 use mathlib.Core.Bool.{Bool, true, false, not, ◌&&◌, false≢true}
-use mathlib.Core.Logic.{◌⊎◌, inl, inr, ⊎_elim}
+use mathlib.Core.Logic.{⊎_elim}
 use Prim.Native.Nat.{ℕ, zero, suc, ◌+◌, ◌-◌, ◌*◌, ◌/◌, ◌%◌, ◌^◌, ◌<◌, ◌≤◌}
 use native.Mathlib.Nat.{eq-or-lt_of_le}
 use native.Mathlib.Decide.{dec_lt}
@@ -13,7 +13,7 @@ use Rattle.literals.specs.Sets.{bit, has, within}
 use Rattle.literals.proofs.Tests.{and_intro, and_left, and_right}
 use Rattle.literals.proofs.Bits.{bit_low, bit_high}
 use Rattle.literals.proofs.Members.{has_and}
-use Rattle.literals.proofs.Within.{within_each, each_within, within_empty, within_trans}
+use Rattle.literals.proofs.Within.{within_each, each_within, within_empty}
 use Rattle.program.specs.Program.{Kind, strict, defeasible}
 use Rattle.program.specs.Inside.Table.{need_of}
 use Rattle.derivation.proofs.Tables.{need_chosen}

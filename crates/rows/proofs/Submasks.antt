@@ -1,12 +1,12 @@
 -- The sets within a set f, in descending order: after i comes (i - 1) & f.
-use mathlib.Core.Path.{◌≡◌, refl, sym, ap, ◌∙◌}
+use mathlib.Core.Path.{◌≡◌, ap, ◌∙◌}
 use mathlib.Core.Bool.{true}
 use mathlib.Core.Logic.{⊎_elim}
-use Prim.Native.Nat.{ℕ, ◌+◌, ◌-◌, ◌*◌, ◌/◌, ◌%◌, ◌<◌, ◌≤◌}
+use Prim.Native.Nat.{ℕ, ◌-◌, ◌/◌, ◌%◌, ◌<◌, ◌≤◌}
 use native.Mathlib.Decide.{dec_lt}
 use native.Mathlib.Omega.{arith}
 use lib.Arith.{bin_ind}
-use lib.Bits.{bit_and, and_step, and_le_l, and_le_r}
+use lib.Bits.{bit_and, and_step}
 use borrow.Author.Tests.{eqb-true}
 use Rattle.literals.specs.Sets.{within}
 use Rattle.literals.proofs.Bits.{digit_cases}

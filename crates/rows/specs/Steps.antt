@@ -1,8 +1,7 @@
 -- What the private steps of the code do to the words of the rows.
 use Rattle.std.specs.Prelude.{◌≡◌, Bool, true, false, List, [], ◌∷◌, ◌⊎◌, ℕ, ◌+◌, ◌-◌, ◌*◌, ◌/◌, ◌^◌, ◌<◌, ◌≤◌, length, get_or}
 use Rattle.literals.specs.Sets.{has, within}
-use Rattle.program.specs.Program.{Kind}
-use Rattle.program.specs.Inside.Table.{head_at, body_at, need_at, need_of, rule_count}
+use Rattle.program.specs.Inside.Table.{head_at, body_at, need_at, rule_count}
 use Rattle.rows.specs.Switched.{Named, ClosedIn}
 use Rattle.rows.specs.Layout.{word_of, HeadWord, Bearing}
 

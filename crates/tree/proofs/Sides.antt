@@ -8,10 +8,10 @@ use native.Mathlib.Omega.{arith}
 use lib.Dec.{eqb}
 use borrow.Author.Tests.{eq-eqb, ne_eqb}
 use Rattle.lists.specs.Lists.{any, all}
-use Rattle.literals.specs.Sets.{has, union, clash}
+use Rattle.literals.specs.Sets.{has, union}
 use Rattle.literals.proofs.Tests.{or_cases}
 use Rattle.literals.proofs.Members.{has_empty, has_union, has_bound, members_below}
-use Rattle.program.specs.Program.{Rule, Program, Π_mask, defeasibles}
+use Rattle.program.specs.Program.{Rule, Program, Π_mask}
 use Rattle.derivation.specs.Closure.{contradictory}
 use Rattle.derivation.proofs.Choices.{Π_with_ext}
 use Rattle.argument.specs.Argument.{mask_of}

@@ -1,5 +1,5 @@
 -- The forest of a literal (document 01, "Lines and trees"). An argument is its entry in the argument list, M × 128 + h.
-use Rattle.std.specs.Prelude.{Bool, List, [], ◌∷◌, ◌++◌, ℕ, suc, eqb}
+use Rattle.std.specs.Prelude.{Bool, List, ◌++◌, ℕ, eqb}
 use Rattle.lists.specs.Lists.{any, filter, index_in}
 use Rattle.derivation.specs.Derivation.{complement}
 use Rattle.argument.specs.Argument.{literal_of}

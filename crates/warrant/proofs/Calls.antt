@@ -19,7 +19,7 @@ use Rattle.answer.specs.declared.Answer.{Answer}
 use Rattle.answer.specs.declared.Answer.TheVariants.{Yes, No, Undecided, Unknown, Unfinished, Refused}
 use Rattle.answer.specs.Answer.{occurs, forest_entries, node_count, warranted, answer_of, answer_by, tests, answer}
 use Rattle.answer.specs.Answer.{code_of, nodes_of}
-use Rattle.calls.specs.Calls.{list_in, list_verdict, front, unless_refused, list_table, query_verdict, answered_by}
+use Rattle.calls.specs.Calls.{list_in, list_verdict, front, list_table, query_verdict, answered_by}
 use Rattle.calls.specs.Calls.{queried, query_arguments}
 use Rattle.calls.specs.Calls.{nodes_after, zeroed, query_column, query_table, packed, host_call, answered_number}
 use Rattle.calls.specs.Calls.{Call, query, host, trees, asked, literal_asked, verdict_of, code_from, nodes_from}

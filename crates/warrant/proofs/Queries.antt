@@ -1,5 +1,5 @@
 -- What the query answers and leaves, cause by cause, and from the answer in the program.
-use mathlib.Core.Path.{◌≡◌, refl, sym, ap, ap₂, ◌∙◌}
+use mathlib.Core.Path.{◌≡◌, refl, sym, ap, ◌∙◌}
 use mathlib.Core.Bool.{Bool, true, false}
 use mathlib.Core.List.{List}
 use Prim.Native.Nat.{ℕ, ◌≤◌, ◌<◌}
@@ -14,7 +14,6 @@ use Rattle.layout.specs.Reading.{program_in}
 use Rattle.image.proofs.Accepted.{accepted_limits}
 use Rattle.program.specs.Inside.Table.{Holds}
 use Rattle.tree.specs.Inside.Tables.{Columns}
-use Rattle.tree.proofs.Tables.{columns_same}
 use Rattle.answer.specs.declared.Answer.{Answer}
 use Rattle.answer.specs.declared.Answer.TheVariants.{Refused}
 use Rattle.answer.specs.Answer.{tests, forest_entries, answer}

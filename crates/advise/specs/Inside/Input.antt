@@ -5,4 +5,4 @@ use Rattle.advise.specs.declared.Input.TheVariants as inputs
 
 abbrev pub Within : Input → ℕ → Type 0
 Within (inputs.Bytes n) room = n ≤ room
-Within inputs.Failed room = Unit {0}
+Within (inputs.Failed error) room = Unit {0}

@@ -13,7 +13,6 @@ use Rattle.image.proofs.Accepted.{accepted_limits}
 use Rattle.calls.specs.Calls.{check_image}
 use Rattle.calls.proofs.Refusals.{check_accepted}
 use Rattle.calls.proofs.Listings.{list_refused, list_over, list_count}
-use borrow.Author.Rules.{rules}
 use Rattle.calls.proofs.list.Goals as goal
 
 within-limits : (s : List ℕ) → check_image s ≡ Accepted → Limits (program_in s)

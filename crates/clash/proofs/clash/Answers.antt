@@ -1,8 +1,6 @@
 -- `clash` meets its contract, by what reading, the test and the room say.
 use mathlib.Core.Path.{sym, ◌∙◌}
 use native.Mathlib.Omega.{arith}
-use borrow.Author.Rules.{rules}
-use borrow.Author.Tests.{not-true, not-false}
 use Rattle.layout.specs.Reading.{program_in}
 use Rattle.clash.proofs.Answers.{shaped, count_is, tested, pruned_clash, call_refused, call_28, call_29, call_done}
 use Rattle.clash.proofs.clash.Goals as goal

@@ -1,5 +1,4 @@
 -- `contradictory_among` meets its contract: the selected rules derive what they do in their own table.
-use borrow.Author.Rules.{rules}
 use Rattle.clash.specs.Inside.Selected.{selected}
 use Rattle.clash.proofs.Selected.{selected_clash}
 use Rattle.clash.proofs.contradictory_among.Goals as goal

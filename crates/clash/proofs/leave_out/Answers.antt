@@ -2,7 +2,6 @@
 use mathlib.Core.Path.{ap}
 use mathlib.Core.Bool.{not}
 use Rattle.clash.proofs.Turns.{out_absent, out_left, out_kept}
-use borrow.Author.Rules.{rules}
 use Rattle.clash.proofs.leave_out.Goals as goal
 
 pub returns-then-not-has : goal.returns-then-not-has

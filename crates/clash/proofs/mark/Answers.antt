@@ -1,8 +1,5 @@
-use Prim.Native.Nat.{◌-◌}
-use Rattle.literals.specs.Inside.Words.{set_of}
 use native.Mathlib.Omega.{arith}
-use Rattle.clash.proofs.Turns.{Marking, marking_start, marking_next, marking_end}
-use borrow.Author.Rules.{rules}
+use Rattle.clash.proofs.Turns.{marking_start, marking_next, marking_end}
 use Rattle.clash.proofs.mark.Goals as goal
 
 pub loop-i-init : goal.loop-i-init

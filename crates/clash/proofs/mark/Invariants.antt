@@ -1,9 +1,7 @@
 -- `mark` meets its contract. The invariant: the bytes from i on are still to be written.
 use Prim.Native.Nat.{◌-◌}
 use Rattle.literals.specs.Inside.Words.{set_of}
-use native.Mathlib.Omega.{arith}
-use Rattle.clash.proofs.Turns.{Marking, marking_start, marking_next, marking_end}
-use borrow.Author.Rules.{rules}
+use Rattle.clash.proofs.Turns.{Marking}
 use Rattle.clash.proofs.mark.Given as goal
 
 abbrev pub invariant-loop-i : goal.invariant-loop-i

@@ -1,7 +1,5 @@
-use Rattle.literals.specs.Inside.Words.{set_of}
 use native.Mathlib.Omega.{arith}
-use Rattle.clash.proofs.Turns.{Pruning, pruning_start, pruning_next, pruning_end}
-use borrow.Author.Rules.{rules}
+use Rattle.clash.proofs.Turns.{pruning_start, pruning_next, pruning_end}
 use Rattle.clash.proofs.prune.Goals as goal
 
 pub loop-n-init : goal.loop-n-init

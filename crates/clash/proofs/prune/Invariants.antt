@@ -1,8 +1,6 @@
 -- `prune` meets its contract. The invariant: from n down what is kept ends as all the start does.
 use Rattle.literals.specs.Inside.Words.{set_of}
-use native.Mathlib.Omega.{arith}
-use Rattle.clash.proofs.Turns.{Pruning, pruning_start, pruning_next, pruning_end}
-use borrow.Author.Rules.{rules}
+use Rattle.clash.proofs.Turns.{Pruning}
 use Rattle.clash.proofs.prune.Given as goal
 
 abbrev pub invariant-loop-n : goal.invariant-loop-n

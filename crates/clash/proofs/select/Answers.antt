@@ -1,10 +1,7 @@
 use mathlib.Core.Path.{sym, ◌∙◌}
-use mathlib.Core.Logic.{inl, inr, ⊎_elim}
-use Prim.Native.Nat.{◌-◌}
+use mathlib.Core.Logic.{inl, inr}
 use native.Mathlib.Omega.{arith}
-use borrow.Author.Rules.{rules}
-use Rattle.literals.specs.Inside.Words.{set_of}
-use Rattle.clash.proofs.Selected.{Selecting, selecting_start, selecting_next, selected_shaped, selected_holds}
+use Rattle.clash.proofs.Selected.{selecting_start, selecting_next, selected_shaped, selected_holds}
 use Rattle.clash.proofs.select.Goals as goal
 use Rattle.clash.proofs.select.Goals.{then-has, else-has}
 
@@ -35,19 +32,19 @@ loop-i-preserved c =
     selecting_next _ _ _ c.rule_count-rules.ensures c.loop-i.i _ _ (omega arith) c.loop-i-test.true c.loop-i.invariant _ _
     (pre.literals c.loop-i.i (omega arith))
     (elim c.if-has.branch [
-      then-has w ↦
+      | then-has w ↦
           inl (
             sym c.has.ensures ∙ w.if-has.true,
             w.n-is,
             (w.head.result, w.body.result, w.head.ensures, w.body.ensures, w.part-is ∙ w.store_row.ensures),
           )
-    | else-has w ↦ inr (sym c.has.ensures ∙ w.if-has.false, w.n-is, w.part-is)
+      | else-has w ↦ inr (sym c.has.ensures ∙ w.if-has.false, w.n-is, w.part-is)
     ])
 
 pub returns : goal.returns
 returns c = let few = c.requires.shaped.few in
     let count = c.rule_count-rules.ensures in
     let atoms = c.atom_count.ensures in record {
-  shaped_2 = selected_shaped _ _ _ count c.loop-i.i _ _ _ _ (omega arith) (omega arith) c.loop-i.invariant atoms c.store_counts.ensures;
-  holds = selected_holds _ _ _ count c.loop-i.i _ _ _ _ (omega arith) (omega arith) c.loop-i.invariant atoms c.store_counts.ensures;
-}
+      shaped_2 = selected_shaped _ _ _ count c.loop-i.i _ _ _ _ (omega arith) (omega arith) c.loop-i.invariant atoms c.store_counts.ensures;
+      holds = selected_holds _ _ _ count c.loop-i.i _ _ _ _ (omega arith) (omega arith) c.loop-i.invariant atoms c.store_counts.ensures;
+    }

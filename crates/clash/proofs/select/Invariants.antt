@@ -1,11 +1,7 @@
 -- `select` meets its contract. The invariant: the rules of the set from rule i on are still to be written.
-use mathlib.Core.Path.{sym, ◌∙◌}
-use mathlib.Core.Logic.{inl, inr, ⊎_elim}
 use Prim.Native.Nat.{◌-◌}
-use native.Mathlib.Omega.{arith}
-use borrow.Author.Rules.{rules}
 use Rattle.literals.specs.Inside.Words.{set_of}
-use Rattle.clash.proofs.Selected.{Selecting, selecting_start, selecting_next, selected_shaped, selected_holds}
+use Rattle.clash.proofs.Selected.{Selecting}
 use Rattle.clash.proofs.select.Given as goal
 
 abbrev pub invariant-loop-i : goal.invariant-loop-i

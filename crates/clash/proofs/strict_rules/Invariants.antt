@@ -1,11 +1,7 @@
 -- `strict_rules` meets its contract. The invariant: from rule i on the strict rules are still to be put in.
-use mathlib.Core.Path.{ap, ◌∙◌}
-use mathlib.Core.Logic.{inl, inr, ⊎_elim}
 use Prim.Native.Nat.{◌-◌}
-use native.Mathlib.Omega.{arith}
-use borrow.Author.Rules.{rules}
 use Rattle.literals.specs.Inside.Words.{set_of}
-use Rattle.clash.proofs.Turns.{Sorting, sorting_start, sorting_next, sorting_end}
+use Rattle.clash.proofs.Turns.{Sorting}
 use Rattle.clash.proofs.strict_rules.Given as goal
 
 abbrev pub invariant-loop-i : goal.invariant-loop-i

@@ -1,10 +1,8 @@
 -- `blank` meets its contract.
 use mathlib.Core.Path.{sym}
-use Prim.Native.Nat.{◌<◌}
 use native.Mathlib.Omega.{arith}
 use lib.Seq.{length-take-le}
 use Rattle.closing.proofs.Headers.{front_length, blank_table}
-use borrow.Author.Rules.{rules}
 use Rattle.closing.proofs.blank.Goals as goal
 
 pub slice_bounds-clear-end-2 : goal.slice_bounds-clear-end-2

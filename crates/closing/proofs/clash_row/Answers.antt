@@ -1,17 +1,12 @@
-use Prim.Native.Nat.{ℕ, ◌+◌, ◌-◌, ◌*◌, ◌^◌, ◌<◌, ◌≤◌}
-use mathlib.Core.Path.{◌≡◌, refl, sym, ◌∙◌}
-use mathlib.Core.Bool.{true}
+use Prim.Native.Nat.{◌-◌}
+use mathlib.Core.Path.{◌∙◌}
 use native.Mathlib.Omega.{arith}
-use lib.Bits.{bit_and, and_le_l}
+use lib.Bits.{and_le_l}
 use lib.ListN.{length-set}
-use Rattle.literals.specs.Sets.{within}
 use Rattle.literals.specs.Inside.Words.{set_of}
-use Rattle.literals.proofs.Members.{has_bound}
-use Rattle.literals.proofs.Words.{has_joined_low, has_joined_high}
 use Rattle.literals.proofs.Within.{within_refl, within_le}
 use Rattle.rows.proofs.Views.{cut_within}
-use Rattle.closures.specs.Inside.Table.{Laid}
-use Rattle.closing.proofs.Clashings.{ClashedTo, clashed_start, clashed_words, laid_same, clashed_last, clashed_next, even_low, even_high}
+use Rattle.closing.proofs.Clashings.{clashed_start, clashed_words, laid_same, clashed_last, clashed_next, even_low, even_high}
 use borrow.Author.Rules.{rules}
 use Rattle.closing.proofs.clash_row.Goals as goal
 

@@ -1,13 +1,9 @@
 -- `clash_word` meets its contract: one atom at a time.
-use Prim.Native.Nat.{ℕ, ◌+◌, ◌*◌, ◌^◌, ◌<◌}
+use Prim.Native.Nat.{ℕ}
 use mathlib.Core.Path.{◌≡◌}
 use mathlib.Core.Bool.{true}
-use native.Mathlib.Omega.{arith}
 use Rattle.literals.specs.Sets.{within}
-use Rattle.literals.proofs.Members.{minus_less}
-use Rattle.literals.proofs.Within.{within_refl, within_each, within_trans, minus_within}
 use Rattle.closing.specs.Inside.Steps.{Clashed}
-use Rattle.closing.proofs.Clashings.{clashed_none, clashed_more}
 use Rattle.closing.proofs.clash_word.Given as goal
 
 abbrev pub invariant-loop-left : goal.invariant-loop-left

@@ -1,11 +1,9 @@
 -- `fill` meets its contract.
-use Prim.Native.Nat.{◌+◌, ◌^◌, ◌<◌, ◌≤◌}
 use native.Mathlib.Omega.{arith}
 use Rattle.literals.specs.Inside.Words.{set_of}
 use Rattle.plans.proofs.Places.{placed_named}
 use Rattle.closing.proofs.Masks.{rows_say}
 use Rattle.closing.proofs.Tellings.{table_laid, row_ends, row_laid, table_tells}
-use borrow.Author.Rules.{rules}
 use Rattle.closing.proofs.fill.Goals as goal
 
 pub fill-requires : goal.fill-requires
@@ -14,7 +12,7 @@ fill-requires c = record {
   needs_one = c.requires.planned.needs;
   bearing = c.requires.planned.bearing;
   placed = placed_named c.args.live.now c.args.keep.now c.args.base.now (set_of c.args.plan.literals) 260 c.args.plan.end _ c.requires.planned.keeps c.requires.planned.bases c.requires.planned.fits
-          (omega (arith, c.requires.span_in_bounds.0, c.clear.ensures.words_len_unchanged)) c.requires.planned.named c.requires.planned.placed;
+      (omega (arith, c.requires.span_in_bounds.0, c.clear.ensures.words_len_unchanged)) c.requires.planned.named c.requires.planned.placed;
 }
 
 pub lay-requires : goal.lay-requires

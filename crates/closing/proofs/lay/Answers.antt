@@ -1,12 +1,10 @@
 -- `lay` meets its contract.
-use Prim.Native.Nat.{◌^◌, ◌<◌, ◌≤◌}
 use native.Mathlib.Omega.{arith}
 use lib.ListN.{length-set}
 use Rattle.literals.specs.Inside.Words.{set_of}
 use Rattle.literals.proofs.Words.{joined_below}
 use Rattle.closing.proofs.Scatterings.{scattered_words}
-use Rattle.closing.proofs.Headers.{header, header_length}
-use borrow.Author.Rules.{rules}
+use Rattle.closing.proofs.Headers.{header}
 use Rattle.closing.proofs.lay.Goals as goal
 
 pub scatter-requires : goal.scatter-requires

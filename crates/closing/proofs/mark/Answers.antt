@@ -1,10 +1,7 @@
-use Prim.Native.Nat.{ℕ, ◌+◌, ◌*◌, ◌<◌}
-use mathlib.Core.List.{List}
-use mathlib.Core.Path.{◌≡◌, refl, ◌∙◌}
-use lib.ListN.{length, length-set}
+use mathlib.Core.Path.{refl, ◌∙◌}
+use lib.ListN.{length-set}
 use native.Mathlib.Omega.{arith}
 use Rattle.literals.proofs.Members.{minus_less}
-use Rattle.closing.specs.Inside.Steps.{Scattered}
 use Rattle.closing.proofs.Scatterings.{scattered_none, scattered_more}
 use borrow.Author.Rules.{rules}
 use Rattle.closing.proofs.mark.Goals as goal

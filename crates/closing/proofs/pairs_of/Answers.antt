@@ -1,9 +1,7 @@
-use Prim.Native.Nat.{ℕ, ◌+◌, ◌-◌, ◌^◌, ◌<◌}
-use mathlib.Core.Path.{◌≡◌, refl, sym, ap, ap₂, ◌∙◌, subst}
+use Prim.Native.Nat.{ℕ, ◌+◌}
+use mathlib.Core.Path.{sym, ap, ap₂, ◌∙◌, subst}
 use mathlib.Core.Bool.{Bool, ◌&&◌}
-use mathlib.Core.Logic.{⊎_elim}
 use native.Mathlib.Omega.{arith}
-use Rattle.literals.specs.Sets.{has}
 use Rattle.literals.specs.Inside.Words.{set_of}
 use Rattle.literals.proofs.Words.{joined_below}
 use Rattle.closing.proofs.Pairings.{PairsTo, pairs_start, pairs_skip, pairs_more, pairs_all}
@@ -36,11 +34,11 @@ pub loop-l-preserved : goal.loop-l-preserved
 loop-l-preserved c = (
   omega (arith, c.loop-l-test.true),
   elim c.if-has.branch [
-    then-has w ↦
+    | then-has w ↦
         subst (λ (x : ℕ). PairsTo (set_of c.args.set) x (c.loop-l.l + 2)) (sym (ap set_of w.found-is ∙ w.insert-found.ensures))
         (pairs_more (set_of c.args.set) (set_of c.loop-l.found) c.loop-l.l c.loop-l.invariant.1
         (sym (ap₂ (λ (x y : Bool). x && y) c.has.ensures c.has-in-loop-l.ensures) ∙ w.if-has.true))
-  | else-has w ↦
+    | else-has w ↦
         subst (λ (x : ℕ). PairsTo (set_of c.args.set) x (c.loop-l.l + 2)) (sym (ap set_of w.found-is))
         (pairs_skip (set_of c.args.set) (set_of c.loop-l.found) c.loop-l.l c.loop-l.invariant.1
         (sym (ap₂ (λ (x y : Bool). x && y) c.has.ensures c.has-in-loop-l.ensures) ∙ w.if-has.false))

@@ -1,14 +1,7 @@
 -- `pairs_of` meets its contract: one atom at a time.
-use Prim.Native.Nat.{ℕ, ◌+◌, ◌-◌, ◌^◌, ◌<◌}
-use mathlib.Core.Path.{◌≡◌, refl, sym, ap, ap₂, ◌∙◌, subst}
-use mathlib.Core.Bool.{Bool, ◌&&◌}
-use mathlib.Core.Logic.{⊎_elim}
-use native.Mathlib.Omega.{arith}
-use Rattle.literals.specs.Sets.{has}
+use Prim.Native.Nat.{◌-◌, ◌<◌}
 use Rattle.literals.specs.Inside.Words.{set_of}
-use Rattle.literals.proofs.Words.{joined_below}
-use Rattle.closing.proofs.Pairings.{PairsTo, pairs_start, pairs_skip, pairs_more, pairs_all}
-use borrow.Author.Rules.{rules}
+use Rattle.closing.proofs.Pairings.{PairsTo}
 use Rattle.closing.proofs.pairs_of.Given as goal
 
 abbrev pub invariant-loop-l : goal.invariant-loop-l

@@ -1,6 +1,6 @@
 -- `plan` meets its contract.
-use mathlib.Core.Path.{◌≡◌, sym, subst}
-use Prim.Native.Nat.{ℕ, ◌+◌, ◌^◌, ◌<◌, ◌≤◌}
+use mathlib.Core.Path.{subst}
+use Prim.Native.Nat.{ℕ}
 use native.Mathlib.Omega.{arith}
 use Rattle.literals.specs.Inside.Words.{set_of}
 use Rattle.literals.proofs.Words.{joined_below}
@@ -45,7 +45,7 @@ unfolding set_of
 returns c = let live = c.live_rules.ensures c.requires.live_len.0 in
     let shaped = live_shaped c.args.table.now (set_of c.reach-reached.result.derived) (set_of c.reach-reached.result.literals) _ live c.requires.shaped.0 in
     let needed = live_needs c.args.table.now (set_of c.reach-reached.result.derived) (set_of c.reach-reached.result.literals) _ live c.requires.shaped.1 in record {
-  planned = record {
+      planned = record {
         shaped = shaped;
         needs = needed;
         named = live_named_in c.args.table.now (set_of c.reach-reached.result.derived) (set_of c.reach-reached.result.literals) _ live;
@@ -62,5 +62,5 @@ returns c = let live = c.live_rules.ensures c.requires.live_len.0 in
         few = c.span_of.ensures.0;
         spans = spans_words c.bearing.new.keep c.pairs_of-pairs.result.hi c.pairs_of-pairs.result.lo c.span_of-low.result c.span_of.result (search rules) c.span_of-low.ensures.2 c.span_of.ensures.1 c.span_of.ensures.2;
       };
-  plan_of = λ p holds. record { table = c.args.table.now; holds = holds; needs = c.requires.shaped.1; live = live; reach = c.reach-reached.ensures p holds };
-}
+      plan_of = λ p holds. record { table = c.args.table.now; holds = holds; needs = c.requires.shaped.1; live = live; reach = c.reach-reached.ensures p holds };
+    }

@@ -1,7 +1,6 @@
 -- `reach` meets its contract.
 use Rattle.literals.specs.Inside.Words.{set_of}
 use Rattle.closing.proofs.Masks.{reach_by}
-use borrow.Author.Rules.{rules}
 use Rattle.closing.proofs.reach.Goals as goal
 
 pub returns : goal.returns

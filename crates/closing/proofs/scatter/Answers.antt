@@ -1,5 +1,4 @@
 -- `scatter` meets its contract: the literals of both words.
-use Prim.Native.Nat.{◌≤◌}
 use native.Mathlib.Omega.{arith}
 use Rattle.literals.specs.Inside.Words.{set_of}
 use Rattle.literals.proofs.Words.{joined_below}

@@ -1,12 +1,9 @@
 -- `scatter_word` meets its contract: one literal at a time.
-use Prim.Native.Nat.{ℕ, ◌+◌, ◌*◌, ◌<◌}
+use Prim.Native.Nat.{ℕ}
 use mathlib.Core.List.{List}
-use mathlib.Core.Path.{◌≡◌, refl, ◌∙◌}
-use lib.ListN.{length, get_or, length-set}
-use native.Mathlib.Omega.{arith}
-use Rattle.literals.proofs.Members.{minus_less}
+use mathlib.Core.Path.{◌≡◌}
+use lib.ListN.{length, get_or}
 use Rattle.closing.specs.Inside.Steps.{Scattered}
-use Rattle.closing.proofs.Scatterings.{scattered_none, scattered_more}
 use Rattle.closing.proofs.scatter_word.Given as goal
 
 abbrev pub invariant-loop-left : goal.invariant-loop-left

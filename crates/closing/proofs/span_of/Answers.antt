@@ -1,12 +1,9 @@
-use Prim.Native.Nat.{ℕ, ◌+◌, ◌*◌, ◌^◌, ◌<◌}
-use mathlib.Core.Path.{◌≡◌}
-use mathlib.Core.Bool.{true}
+use Prim.Native.Nat.{◌+◌, ◌^◌}
 use native.Mathlib.Omega.{arith}
 use lib.Bits.{or_lt}
-use Rattle.literals.specs.Sets.{within}
 use Rattle.literals.proofs.Members.{minus_less}
 use Rattle.literals.proofs.Within.{within_refl, within_each, within_trans, minus_within}
-use Rattle.closing.proofs.Pairings.{Spanned, spanned_none, spanned_more}
+use Rattle.closing.proofs.Pairings.{spanned_none, spanned_more}
 use Rattle.closing.proofs.span_of.Goals as goal
 
 pub loop-left-init : goal.loop-left-init

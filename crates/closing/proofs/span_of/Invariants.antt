@@ -1,13 +1,9 @@
 -- `span_of` meets its contract: one atom at a time.
-use Prim.Native.Nat.{ℕ, ◌+◌, ◌*◌, ◌^◌, ◌<◌}
+use Prim.Native.Nat.{ℕ, ◌<◌}
 use mathlib.Core.Path.{◌≡◌}
 use mathlib.Core.Bool.{true}
-use native.Mathlib.Omega.{arith}
-use lib.Bits.{or_lt}
 use Rattle.literals.specs.Sets.{within}
-use Rattle.literals.proofs.Members.{minus_less}
-use Rattle.literals.proofs.Within.{within_refl, within_each, within_trans, minus_within}
-use Rattle.closing.proofs.Pairings.{Spanned, spanned_none, spanned_more}
+use Rattle.closing.proofs.Pairings.{Spanned}
 use Rattle.closing.proofs.span_of.Given as goal
 
 abbrev pub invariant-loop-left : goal.invariant-loop-left

@@ -1,5 +1,5 @@
 -- What comes before the rows: which literals have one, where each begins, and how long it is.
-use Rattle.std.specs.Prelude.{◌≡◌, Bool, true, ◌&&◌, ◌||◌, List, ℕ, ◌+◌, ◌*◌, ◌%◌, ◌^◌, ◌<◌, ◌≤◌, length, get_or}
+use Rattle.std.specs.Prelude.{◌≡◌, true, ◌&&◌, ◌||◌, List, ℕ, ◌+◌, ◌*◌, ◌%◌, ◌^◌, ◌<◌, ◌≤◌, length, get_or}
 use Rattle.literals.specs.Sets.{has, minus, union, within}
 use Rattle.program.specs.Program.{Rule, Program, Π_mask, Π}
 use Rattle.program.specs.Inside.Table.{Shaped, Holds}

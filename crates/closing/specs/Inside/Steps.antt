@@ -1,5 +1,5 @@
 -- What the private steps of the code do to the words of the table.
-use Rattle.std.specs.Prelude.{◌≡◌, true, false, not, List, ℕ, ◌+◌, ◌<◌, ◌≤◌, length, get_or}
+use Rattle.std.specs.Prelude.{◌≡◌, true, false, List, ℕ, ◌+◌, ◌<◌, ◌≤◌, length, get_or}
 use Rattle.literals.specs.Sets.{has, within}
 use Rattle.closures.specs.Inside.Table.{begins_at, keeps_at, word_at}
 

@@ -4,7 +4,6 @@ use Prim.Native.Nat.{ℕ}
 use Rattle.literals.specs.Sets.{has}
 use Rattle.closures.specs.Inside.Table.{word_at}
 use Rattle.closures.proofs.Readings.{row_at}
-use borrow.Author.Rules.{rules}
 use Rattle.closures.proofs.clashing.Goals as goal
 
 pub returns : goal.returns

@@ -2,7 +2,6 @@
 use mathlib.Core.Path.{ap, ◌∙◌}
 use Prim.Native.Nat.{ℕ, ◌%◌}
 use Rattle.literals.specs.Sets.{has}
-use borrow.Author.Rules.{rules}
 use Rattle.closures.proofs.derives.Goals as goal
 
 pub returns : goal.returns

@@ -1,10 +1,8 @@
 -- `minimal` meets its contract.
-use Prim.Native.Nat.{◌+◌, ◌*◌, ◌<◌}
 use native.Mathlib.Omega.{arith}
 use Rattle.literals.proofs.Within.{within_le}
 use Rattle.closures.specs.Inside.Table.{keeps_at}
 use Rattle.closures.proofs.Readings.{minima_kept}
-use borrow.Author.Rules.{rules}
 use Rattle.closures.proofs.minimal.Goals as goal
 
 pub minimal-requires : goal.minimal-requires

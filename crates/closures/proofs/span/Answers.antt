@@ -1,6 +1,5 @@
 -- `span` meets its contract.
 use mathlib.Core.Path.{refl}
-use borrow.Author.Rules.{rules}
 use Rattle.closures.proofs.span.Goals as goal
 
 pub returns : goal.returns

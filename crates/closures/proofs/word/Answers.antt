@@ -1,8 +1,6 @@
 -- `word` meets its contract.
-use Prim.Native.Nat.{◌+◌, ◌*◌, ◌<◌}
 use native.Mathlib.Omega.{arith}
 use Rattle.closures.proofs.Readings.{word_inside}
-use borrow.Author.Rules.{rules}
 use Rattle.closures.proofs.word.Goals as goal
 
 pub overflow_add-result : goal.overflow_add-result

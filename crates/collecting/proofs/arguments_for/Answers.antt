@@ -1,7 +1,6 @@
 -- `arguments_for` meets its contract, a law for each answer.
 use lib.Bits.{and_le_l}
 use Rattle.collecting.proofs.Told.{word_is, word_empty}
-use borrow.Author.Rules.{rules}
 use Rattle.collecting.proofs.arguments_for.Goals as goal
 
 pub returns-then-x-eq0 : goal.returns-then-x-eq0

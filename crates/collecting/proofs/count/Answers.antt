@@ -27,6 +27,6 @@ pub returns : goal.returns
 unfolding set_of
 returns c = let a = c.args in
     record {
-  value = ap₂ ◌+◌ c.count_literals-low.ensures.value.0 c.count_literals-high.ensures.value.0 ∙ sym (list_count a.rows.now a.literals.hi a.literals.lo (search rules));
-  marks = marks_both a.rows.now a.literals.hi a.literals.lo (search rules) (search rules) _ _ _ c.count_literals-low.ensures.marks c.count_literals-high.ensures.marks;
-}
+      value = ap₂ ◌+◌ c.count_literals-low.ensures.value.0 c.count_literals-high.ensures.value.0 ∙ sym (list_count a.rows.now a.literals.hi a.literals.lo (search rules));
+      marks = marks_both a.rows.now a.literals.hi a.literals.lo (search rules) (search rules) _ _ _ c.count_literals-low.ensures.marks c.count_literals-high.ensures.marks;
+    }

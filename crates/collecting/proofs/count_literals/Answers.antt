@@ -1,10 +1,7 @@
 use mathlib.Core.Path.{◌≡◌, refl, ◌∙◌}
-use mathlib.Core.List.{List}
-use Prim.Native.Nat.{ℕ, ◌+◌}
 use native.Mathlib.Nat.{zero-add}
-use lib.ListN.{length}
 use Rattle.literals.proofs.Members.{minus_less}
-use Rattle.collecting.specs.Inside.Columns.{literals_count, Marks, Literals, InRow}
+use Rattle.collecting.specs.Inside.Columns.{literals_count}
 use Rattle.collecting.proofs.Counts.{literals_few, literals_next, literals_none}
 use Rattle.collecting.proofs.Marks.{marks_literal, marks_end}
 use native.Mathlib.Omega.{arith}
@@ -45,6 +42,6 @@ shape_of-touched c = c.loop-left.invariant.1
 pub returns : goal.returns
 returns c = let a = c.args in
     let e : c.loop-left.found ≡ literals_count a.rows.now a.first a.word = omega (arith, c.loop-left.invariant.0, literals_none a.rows.now a.first c.loop-left.left c.loop-left-test.false) in record {
-  value = (e, omega (arith, e, literals_few a.rows.now a.first a.word));
-  marks = c.loop-left.invariant.2 _ (marks_end a.rows.now a.first c.loop-left.left c.loop-left.touched c.loop-left-test.false);
-}
+      value = (e, omega (arith, e, literals_few a.rows.now a.first a.word));
+      marks = c.loop-left.invariant.2 _ (marks_end a.rows.now a.first c.loop-left.left c.loop-left.touched c.loop-left-test.false);
+    }

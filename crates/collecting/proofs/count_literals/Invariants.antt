@@ -1,14 +1,9 @@
 -- `count_literals` meets its contract: the arguments for the literals that are left are left to be counted.
-use mathlib.Core.Path.{◌≡◌, refl, ◌∙◌}
+use mathlib.Core.Path.{◌≡◌}
 use mathlib.Core.List.{List}
 use Prim.Native.Nat.{ℕ, ◌+◌}
-use native.Mathlib.Nat.{zero-add}
 use lib.ListN.{length}
-use Rattle.literals.proofs.Members.{minus_less}
 use Rattle.collecting.specs.Inside.Columns.{literals_count, Marks, Literals, InRow}
-use Rattle.collecting.proofs.Counts.{literals_few, literals_next, literals_none}
-use Rattle.collecting.proofs.Marks.{marks_literal, marks_end}
-use native.Mathlib.Omega.{arith}
 use Rattle.collecting.proofs.count_literals.Given as goal
 
 abbrev pub invariant-loop-left : goal.invariant-loop-left

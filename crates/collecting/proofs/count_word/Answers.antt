@@ -26,9 +26,9 @@ arguments_for-x-requires c = record {
 pub returns-then-x-eq0 : goal.returns-then-x-eq0
 returns-then-x-eq0 c = let a = c.args in
     record {
-  value = (word_none a.rows.now a.literal a.w c.arguments_for-x.result c.if-x-eq0.true c.arguments_for-x.ensures, omega arith);
-  marks = marks_idle a.rows.now a.touched.now a.literal a.w c.arguments_for-x.result c.arguments_for-x.ensures c.if-x-eq0.true;
-}
+      value = (word_none a.rows.now a.literal a.w c.arguments_for-x.result c.if-x-eq0.true c.arguments_for-x.ensures, omega arith);
+      marks = marks_idle a.rows.now a.touched.now a.literal a.w c.arguments_for-x.result c.arguments_for-x.ensures c.if-x-eq0.true;
+    }
 
 pub bounds-touched-at : goal.bounds-touched-at
 bounds-touched-at c = omega (arith, low (goal.at.bounds-touched-at c).Start, c.requires.laid.2)
@@ -39,7 +39,7 @@ bounds-touched-at-2 c = omega (arith, low (goal.at.bounds-touched-at-2 c).Start,
 pub returns : goal.returns
 returns c = let a = c.args in
     let same : c.count.result ≡ word_count a.rows.now a.literal a.w = c.count.ensures ∙ word_count_lem a.rows.now a.literal a.w c.arguments_for-x.result (search rules) c.arguments_for-x.ensures in record {
-  value = (same, omega (arith, same, word_few a.rows.now a.literal a.w));
-  marks = subst (λ (y : ℕ). Marks a.rows.now (InWord a.literal a.w) a.touched.now (set a.touched.now (a.w / 64) y)) (sym c.with_bit.ensures)
+      value = (same, omega (arith, same, word_few a.rows.now a.literal a.w));
+      marks = subst (λ (y : ℕ). Marks a.rows.now (InWord a.literal a.w) a.touched.now (set a.touched.now (a.w / 64) y)) (sym c.with_bit.ensures)
           (marks_word a.rows.now a.touched.now a.literal a.w (low (goal.at.returns c).Start) c.requires.laid.2);
-}
+    }

@@ -9,7 +9,6 @@ use Rattle.closures.specs.Inside.Table.{Tells}
 use Rattle.collecting.specs.Inside.Columns.{Derivable, list_of}
 use Rattle.collecting.proofs.Lists.{list_told}
 use native.Mathlib.Omega.{arith}
-use borrow.Author.Rules.{rules}
 use Rattle.collecting.proofs.list.Goals as goal
 use Rattle.collecting.proofs.list.Goals.{Start}
 

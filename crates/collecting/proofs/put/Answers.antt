@@ -1,13 +1,10 @@
-use mathlib.Core.Path.{◌≡◌, refl, ap, ◌∙◌}
-use mathlib.Core.List.{List}
+use mathlib.Core.Path.{refl, ap, ◌∙◌}
 use Prim.Native.Nat.{ℕ}
-use lib.ListN.{length, length-set}
+use lib.ListN.{length-set}
 use Rattle.literals.specs.Sets.{insert}
 use Rattle.literals.specs.Inside.Words.{set_of}
 use Rattle.literals.proofs.Members.{minus_less}
-use Rattle.collecting.specs.Inside.Columns.{Put}
 use Rattle.collecting.proofs.Puts.{put_none, put_more}
-use borrow.Author.Rules.{rules}
 use native.Mathlib.Omega.{arith}
 use Rattle.collecting.proofs.put.Goals as goal
 

@@ -1,15 +1,9 @@
 -- `put` meets its contract: the columns that are left.
-use mathlib.Core.Path.{◌≡◌, refl, ap, ◌∙◌}
+use mathlib.Core.Path.{◌≡◌}
 use mathlib.Core.List.{List}
 use Prim.Native.Nat.{ℕ}
-use lib.ListN.{length, length-set}
-use Rattle.literals.specs.Sets.{insert}
-use Rattle.literals.specs.Inside.Words.{set_of}
-use Rattle.literals.proofs.Members.{minus_less}
+use lib.ListN.{length}
 use Rattle.collecting.specs.Inside.Columns.{Put}
-use Rattle.collecting.proofs.Puts.{put_none, put_more}
-use borrow.Author.Rules.{rules}
-use native.Mathlib.Omega.{arith}
 use Rattle.collecting.proofs.put.Given as goal
 
 abbrev pub invariant-loop-left : goal.invariant-loop-left

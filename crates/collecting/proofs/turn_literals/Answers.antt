@@ -1,9 +1,6 @@
-use mathlib.Core.Path.{◌≡◌, refl, ◌∙◌}
-use mathlib.Core.List.{List}
-use Prim.Native.Nat.{ℕ, ◌+◌}
-use lib.ListN.{length}
+use mathlib.Core.Path.{refl, ◌∙◌}
+use Prim.Native.Nat.{◌+◌}
 use Rattle.literals.proofs.Members.{minus_less}
-use Rattle.collecting.specs.Inside.Columns.{Turned, Literals}
 use Rattle.collecting.proofs.Turns.{turned_row, turned_literal, turned_end}
 use native.Mathlib.Omega.{arith}
 use Rattle.collecting.proofs.turn_literals.Goals as goal

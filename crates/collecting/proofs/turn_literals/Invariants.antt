@@ -1,12 +1,9 @@
 -- `turn_literals` meets its contract: the literals that are left are left to be put into columns.
-use mathlib.Core.Path.{◌≡◌, refl, ◌∙◌}
+use mathlib.Core.Path.{◌≡◌}
 use mathlib.Core.List.{List}
-use Prim.Native.Nat.{ℕ, ◌+◌}
+use Prim.Native.Nat.{ℕ}
 use lib.ListN.{length}
-use Rattle.literals.proofs.Members.{minus_less}
 use Rattle.collecting.specs.Inside.Columns.{Turned, Literals}
-use Rattle.collecting.proofs.Turns.{turned_row, turned_literal, turned_end}
-use native.Mathlib.Omega.{arith}
 use Rattle.collecting.proofs.turn_literals.Given as goal
 
 abbrev pub invariant-loop-left : goal.invariant-loop-left

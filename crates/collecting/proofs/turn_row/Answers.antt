@@ -4,10 +4,9 @@ use mathlib.Core.Bool.{false}
 use Rattle.literals.specs.Sets.{within}
 use Rattle.literals.proofs.Members.{has_empty}
 use Rattle.closures.specs.Inside.Table.{keeps_at}
-use Rattle.collecting.proofs.Told.{off, on, none_beyond}
+use Rattle.collecting.proofs.Told.{none_beyond}
 use Rattle.collecting.proofs.Puts.{put_none}
 use native.Mathlib.Omega.{arith}
-use borrow.Author.Rules.{rules}
 use Rattle.collecting.proofs.turn_row.Goals as goal
 
 pub span-requires : goal.span-requires

@@ -1,12 +1,6 @@
-use mathlib.Core.List.{List}
-use Prim.Native.Nat.{ℕ, ◌-◌, ◌≤◌}
-use lib.ListN.{get_or}
-use Rattle.lists.proofs.Stores.{Writing, writing_all}
+use Rattle.lists.proofs.Stores.{writing_all}
 use Rattle.literals.specs.Inside.Words.{set_of}
-use Rattle.collecting.specs.Inside.Folds.{lists}
-use Rattle.collecting.specs.Inside.Columns.{words_list, list_of}
 use Rattle.collecting.proofs.Lists.{lists_room, lists_more, lists_written, list_marked}
-use borrow.Author.Rules.{rules}
 use native.Mathlib.Omega.{arith}
 use Rattle.collecting.proofs.write.Invariants.{marked}
 use Rattle.collecting.proofs.write.Goals as goal
@@ -20,9 +14,9 @@ bounds-touched-i c = omega (arith, c.requires.laid.1)
 pub write_words-at-requires : goal.write_words-at-requires
 write_words-at-requires c = let a = c.args in
     record {
-  laid = (c.requires.laid.0, omega arith);
-  i_in_bounds = lists_room (marked a.rows.now (set_of a.literals) a.touched.now) 16 _ _ _ c.loop-i.at c.loop-i.i c.loop-i.invariant.1 (omega arith) c.requires.literals_in_bounds;
-}
+      laid = (c.requires.laid.0, omega arith);
+      i_in_bounds = lists_room (marked a.rows.now (set_of a.literals) a.touched.now) 16 _ _ _ c.loop-i.at c.loop-i.i c.loop-i.invariant.1 (omega arith) c.requires.literals_in_bounds;
+    }
 
 pub overflow_add-i : goal.overflow_add-i
 overflow_add-i c = omega arith
@@ -31,11 +25,10 @@ pub loop-i-smaller : goal.loop-i-smaller
 loop-i-smaller c = omega arith
 
 pub loop-i-preserved : goal.loop-i-preserved
-loop-i-preserved c = let a = c.args in
-    (
-      omega arith,
-      lists_more (marked a.rows.now (set_of a.literals) a.touched.now) 16 _ _ _ c.loop-i.at c.loop-i.i c.loop-i.invariant.1 (omega arith) _ _ c.write_words-at.ensures,
-    )
+loop-i-preserved c = let a = c.args in (
+  omega arith,
+  lists_more (marked a.rows.now (set_of a.literals) a.touched.now) 16 _ _ _ c.loop-i.at c.loop-i.i c.loop-i.invariant.1 (omega arith) _ _ c.write_words-at.ensures,
+)
 
 pub shape_of-arguments : goal.shape_of-arguments
 shape_of-arguments c = c.loop-i.invariant.1.kept

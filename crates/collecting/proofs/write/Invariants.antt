@@ -2,13 +2,10 @@
 use mathlib.Core.List.{List}
 use Prim.Native.Nat.{ℕ, ◌-◌, ◌≤◌}
 use lib.ListN.{get_or}
-use Rattle.lists.proofs.Stores.{Writing, writing_all}
+use Rattle.lists.proofs.Stores.{Writing}
 use Rattle.literals.specs.Inside.Words.{set_of}
 use Rattle.collecting.specs.Inside.Folds.{lists}
 use Rattle.collecting.specs.Inside.Columns.{words_list, list_of}
-use Rattle.collecting.proofs.Lists.{lists_room, lists_more, lists_written, list_marked}
-use borrow.Author.Rules.{rules}
-use native.Mathlib.Omega.{arith}
 use Rattle.collecting.proofs.write.Given as goal
 
 -- the arguments of the marked words from 64 j on

@@ -1,9 +1,9 @@
 use mathlib.Core.Path.{refl, ap}
 use Prim.Native.Nat.{◌+◌, ◌*◌}
-use Rattle.lists.proofs.Stores.{Writing, writing_all}
+use Rattle.lists.proofs.Stores.{writing_all}
 use Rattle.literals.proofs.Members.{minus_less}
 use Rattle.listing.specs.Inside.Listing.{members_from}
-use Rattle.collecting.specs.Inside.Columns.{column_list, columns_list}
+use Rattle.collecting.specs.Inside.Columns.{column_list}
 use Rattle.collecting.proofs.Lists.{parts_room, parts_more, parts_written}
 use native.Mathlib.Omega.{arith}
 use Rattle.collecting.proofs.write_columns.Goals as goal
@@ -29,10 +29,10 @@ overflow_mul-w-in-loop-left c = omega (arith, c.lowest-k.ensures.small, c.requir
 pub write_set-next-requires : goal.write_set-next-requires
 write_set-next-requires c = let a = c.args in
     record {
-  set_in_bounds = parts_room (column_list a.columns.now a.w) _ _ _ a.at c.loop-left.next c.loop-left.left c.loop-left.invariant c.lowest-k.result c.lowest-k.ensures _
+      set_in_bounds = parts_room (column_list a.columns.now a.w) _ _ _ a.at c.loop-left.next c.loop-left.left c.loop-left.invariant c.lowest-k.result c.lowest-k.ensures _
           (ap (members_from ((64 * a.w + c.lowest-k.result) * 128) 128) c.entry-literals.ensures) c.requires.w_in_bounds;
-  base_bound = omega (arith, c.lowest-k.ensures.small, c.requires.columns_len.1);
-}
+      base_bound = omega (arith, c.lowest-k.ensures.small, c.requires.columns_len.1);
+    }
 
 pub rest-left-requires : goal.rest-left-requires
 rest-left-requires c = c.loop-left-test.true

@@ -6,7 +6,6 @@ use lib.ListN.{length}
 use Rattle.lists.specs.Inside.Stores.{Written}
 use Rattle.literals.specs.Inside.Words.{set_of}
 use Rattle.collecting.proofs.Lists.{columns_list_lem}
-use borrow.Author.Rules.{rules}
 use Rattle.collecting.proofs.write_word.Goals as goal
 
 pub turn-masks-requires : goal.turn-masks-requires

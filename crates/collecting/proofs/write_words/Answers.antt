@@ -1,10 +1,10 @@
 use mathlib.Core.Path.{refl}
 use mathlib.Core.List.{List}
 use Prim.Native.Nat.{ℕ, ◌+◌, ◌*◌}
-use Rattle.lists.proofs.Stores.{Writing, writing_all}
+use Rattle.lists.proofs.Stores.{writing_all}
 use Rattle.literals.specs.Inside.Words.{set_of}
 use Rattle.literals.proofs.Members.{minus_less}
-use Rattle.collecting.specs.Inside.Columns.{word_list, words_list}
+use Rattle.collecting.specs.Inside.Columns.{word_list}
 use Rattle.collecting.proofs.Lists.{parts_room, parts_more, parts_written}
 use native.Mathlib.Omega.{arith}
 use Rattle.collecting.proofs.write_words.Goals as goal
@@ -28,9 +28,9 @@ overflow_add-i c = omega (arith, c.requires.laid.1, c.lowest.ensures.small)
 pub write_word-next-requires : goal.write_word-next-requires
 write_word-next-requires c = let a = c.args in
     record {
-  laid = (c.requires.laid.0, omega (arith, c.requires.laid.1, c.lowest.ensures.small));
-  w_in_bounds = parts_room (words a.rows.now (set_of a.literals) a.i) _ _ _ a.at c.loop-left.next c.loop-left.left c.loop-left.invariant c.lowest.result c.lowest.ensures _ refl c.requires.i_in_bounds;
-}
+      laid = (c.requires.laid.0, omega (arith, c.requires.laid.1, c.lowest.ensures.small));
+      w_in_bounds = parts_room (words a.rows.now (set_of a.literals) a.i) _ _ _ a.at c.loop-left.next c.loop-left.left c.loop-left.invariant c.lowest.result c.lowest.ensures _ refl c.requires.i_in_bounds;
+    }
 
 pub rest-left-requires : goal.rest-left-requires
 rest-left-requires c = c.loop-left-test.true

@@ -1,5 +1,4 @@
 -- `derivation::close` meets its contract: a gathering ends in the closure.
-use borrow.Author.Rules.{rules}
 use Rattle.derivation.proofs.Gatherings.{gathers_closure}
 use Rattle.derivation.proofs.close.Goals as goal
 

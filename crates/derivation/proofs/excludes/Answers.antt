@@ -1,5 +1,4 @@
 -- `derivation::excludes` meets its contract.
-use borrow.Author.Rules.{rules}
 use Rattle.derivation.proofs.Turns.{excludes_by}
 use Rattle.derivation.proofs.excludes.Goals as goal
 

@@ -1,7 +1,5 @@
 -- `derivation::fire` meets its contract: off, its head there, its body there, its body not there.
 use mathlib.Core.Path.{sym, ◌∙◌}
-use borrow.Author.Rules.{rules}
-use borrow.Author.Tests.{not-true, not-false}
 use Rattle.derivation.proofs.Turns.{fired_off, fired_there, fired_new, fired_waits}
 use Rattle.derivation.proofs.fire.Goals as goal
 

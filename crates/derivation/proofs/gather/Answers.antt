@@ -1,13 +1,10 @@
 use mathlib.Core.Path.{sym, ◌∙◌}
-use Prim.Native.Nat.{◌-◌}
 use native.Mathlib.Omega.{arith}
-use lib.Count.{ones}
 use borrow.Author.Rules.{rules}
 use borrow.Author.Tests.{eqb-true, eqb-false}
 use Rattle.literals.specs.Inside.Words.{set_of}
 use Rattle.literals.proofs.Words.{joined_below}
-use Rattle.program.specs.Program.{Π_mask}
-use Rattle.derivation.proofs.Turns.{Rounding, rounding_start, rounding_last, rounding_next, rounding_less}
+use Rattle.derivation.proofs.Turns.{rounding_start, rounding_last, rounding_next, rounding_less}
 use Rattle.derivation.proofs.gather.Goals as goal
 
 pub loop-t-init : goal.loop-t-init
@@ -22,7 +19,7 @@ pub returns-then-same : goal.returns-then-same
 returns-then-same c = record {
   given_bound = omega (arith, c.loop-t.invariant.few);
   gathers = rounding_last _ _ _ _ _ _ _ c.loop-t.invariant c.round-turned.ensures.rounded
-          (eqb-true _ _ (sym c.same.ensures ∙ c.if-same.true));
+      (eqb-true _ _ (sym c.same.ensures ∙ c.if-same.true));
 }
 
 pub loop-t-smaller : goal.loop-t-smaller

@@ -1,15 +1,10 @@
 -- `derivation::gather` meets its contract. The invariant: the rounds to come are the last ones of those from the given
 -- literals. The measure is what is not yet derived.
-use mathlib.Core.Path.{sym, ◌∙◌}
 use Prim.Native.Nat.{◌-◌}
-use native.Mathlib.Omega.{arith}
 use lib.Count.{ones}
-use borrow.Author.Rules.{rules}
-use borrow.Author.Tests.{eqb-true, eqb-false}
 use Rattle.literals.specs.Inside.Words.{set_of}
-use Rattle.literals.proofs.Words.{joined_below}
 use Rattle.program.specs.Program.{Π_mask}
-use Rattle.derivation.proofs.Turns.{Rounding, rounding_start, rounding_last, rounding_next, rounding_less}
+use Rattle.derivation.proofs.Turns.{Rounding}
 use Rattle.derivation.proofs.gather.Given as goal
 
 abbrev pub invariant-loop-t : goal.invariant-loop-t

@@ -1,7 +1,6 @@
 -- `derivation::is_on` meets its contract.
 use mathlib.Core.Path.{ap, ◌∙◌}
 use Prim.Native.Nat.{ℕ}
-use borrow.Author.Rules.{rules}
 use Rattle.literals.specs.Sets.{within}
 use Rattle.derivation.proofs.is_on.Goals as goal
 

@@ -1,9 +1,8 @@
-use Prim.Native.Nat.{◌-◌}
 use native.Mathlib.Omega.{arith}
 use borrow.Author.Rules.{rules}
 use Rattle.literals.specs.Inside.Words.{set_of}
 use Rattle.literals.proofs.Words.{joined_below}
-use Rattle.derivation.proofs.Turns.{Turning, turning_start, turning_next, turning_end}
+use Rattle.derivation.proofs.Turns.{turning_start, turning_next, turning_end}
 use Rattle.derivation.proofs.round.Goals as goal
 
 pub loop-i-init : goal.loop-i-init
@@ -17,9 +16,9 @@ fire-done-requires c = let pre = c.requires in
     let count = c.rule_count-rules.ensures in
     let read = c.loop-i.invariant.few in
     record {
-  i_bound = (omega arith, pre.literals c.loop-i.i (omega arith));
-  read_bound = omega arith;
-}
+      i_bound = (omega arith, pre.literals c.loop-i.i (omega arith));
+      read_bound = omega arith;
+    }
 
 pub overflow_add-i : goal.overflow_add-i
 overflow_add-i c = omega arith

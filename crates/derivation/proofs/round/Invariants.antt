@@ -1,10 +1,7 @@
 -- `derivation::round` meets its contract. The invariant: the rules from i on make of the set what all rules make of the start.
 use Prim.Native.Nat.{◌-◌}
-use native.Mathlib.Omega.{arith}
-use borrow.Author.Rules.{rules}
 use Rattle.literals.specs.Inside.Words.{set_of}
-use Rattle.literals.proofs.Words.{joined_below}
-use Rattle.derivation.proofs.Turns.{Turning, turning_start, turning_next, turning_end}
+use Rattle.derivation.proofs.Turns.{Turning}
 use Rattle.derivation.proofs.round.Given as goal
 
 abbrev pub invariant-loop-i : goal.invariant-loop-i

@@ -1,7 +1,4 @@
-use Prim.Native.Nat.{◌-◌}
-use Rattle.literals.specs.Inside.Words.{set_of}
-use Rattle.excluded.proofs.Concluded.{Looked, looked_skip, looked_more, looked_all}
-use borrow.Author.Rules.{rules}
+use Rattle.excluded.proofs.Concluded.{looked_skip, looked_more, looked_all}
 use native.Mathlib.Omega.{arith}
 use Rattle.excluded.proofs.conclusions.Goals as goal
 

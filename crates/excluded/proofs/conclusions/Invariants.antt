@@ -1,9 +1,7 @@
 -- `conclusions` meets its contract: the literals of the arguments that are passed are found.
 use Prim.Native.Nat.{◌-◌}
 use Rattle.literals.specs.Inside.Words.{set_of}
-use Rattle.excluded.proofs.Concluded.{Looked, looked_skip, looked_more, looked_all}
-use borrow.Author.Rules.{rules}
-use native.Mathlib.Omega.{arith}
+use Rattle.excluded.proofs.Concluded.{Looked}
 use Rattle.excluded.proofs.conclusions.Given as goal
 
 abbrev pub invariant-loop-i : goal.invariant-loop-i

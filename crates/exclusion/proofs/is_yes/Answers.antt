@@ -3,7 +3,6 @@ use mathlib.Core.Path.{sym, ap}
 use lib.Dec.{eqb}
 use Rattle.answer.specs.declared.Answer.{Answer}
 use Rattle.answer.specs.Answer.{code_of}
-use borrow.Author.Rules.{rules}
 use Rattle.exclusion.proofs.is_yes.Goals as goal
 
 pub returns-in-Yes : goal.returns-in-Yes

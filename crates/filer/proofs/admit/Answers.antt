@@ -3,7 +3,6 @@ use mathlib.Core.Path.{sym, ◌∙◌}
 use Rattle.filer.proofs.Rules.{accepted_long}
 use Rattle.filer.proofs.Files.{admit_checked, admit_short, admit_few, admit_all}
 use native.Mathlib.Omega.{arith}
-use borrow.Author.Rules.{rules}
 use Rattle.filer.proofs.admit.Goals as goal
 
 pub returns-in-Refused : goal.returns-in-Refused

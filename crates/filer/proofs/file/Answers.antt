@@ -4,7 +4,6 @@ use Rattle.filing.proofs.Refusals.{file_accepted}
 use Rattle.filer.proofs.Rules.{accepted_long, accepted_short}
 use Rattle.filer.proofs.Files.{file_turned, filed_front, filed_numbering, file_done}
 use native.Mathlib.Omega.{arith}
-use borrow.Author.Rules.{rules}
 use Rattle.filer.proofs.file.Goals as goal
 
 pub returns-in-Refused : goal.returns-in-Refused

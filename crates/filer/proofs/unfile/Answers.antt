@@ -2,7 +2,6 @@
 use mathlib.Core.Path.{sym, ◌∙◌}
 use Prim.Native.Nat.{◌≤◌}
 use lib.ListN.{get_or-replicate}
-use borrow.Author.Tests.{not-true, not-false}
 use Rattle.filing.proofs.Refusals.{file_accepted}
 use Rattle.filer.proofs.Rules.{accepted_short}
 use Rattle.filer.proofs.Rules.{accepted_few, accepted_long}

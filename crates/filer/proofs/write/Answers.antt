@@ -1,14 +1,13 @@
 -- The pieces, one after the other.
-use mathlib.Core.Path.{◌≡◌, refl, subst}
+use mathlib.Core.Path.{◌≡◌}
 use mathlib.Core.List.{List}
-use Prim.Native.Nat.{ℕ, ◌+◌, ◌*◌, ◌<◌, ◌≤◌}
+use Prim.Native.Nat.{ℕ, ◌+◌, ◌*◌, ◌≤◌}
 use lib.ListN.{length, take, drop}
 use lib.Seq.{length-take-le}
 use Rattle.lists.proofs.Stores.{written_length}
 use Rattle.writing.proofs.Outputs.{entries_length}
 use Rattle.filer.proofs.Wholes.{numbers, parts_at, total, short, pieces_written}
 use native.Mathlib.Omega.{arith}
-use borrow.Author.Rules.{rules}
 use Rattle.filer.proofs.write.Goals as goal
 
 -- eight bytes are copied
@@ -36,11 +35,11 @@ pub entries-place-requires : goal.entries-place-requires
 entries-place-requires c = let t = total _ c.requires.0 _ c.requires.1 _ c.requires.2 c.requires.3 in
     let h = eight c.args.image.now (omega (arith, t)) in
     let l = written_length _ _ _ _ _ c.copy-header.ensures in record {
-  parts_at = parts_at _ c.requires.0 _ c.requires.1 _ c.requires.2 c.requires.3;
-  numbers = numbers _ c.requires.0 _ c.requires.1 _ c.requires.2 c.requires.3;
-  rules_in_bounds = omega (arith, t, h, l, c.copy-header.ensures.next_is, c.requires.4);
-  order_bound = omega (arith, t, short _ c.requires.0 _ c.requires.1 _ c.requires.2 c.requires.3);
-}
+      parts_at = parts_at _ c.requires.0 _ c.requires.1 _ c.requires.2 c.requires.3;
+      numbers = numbers _ c.requires.0 _ c.requires.1 _ c.requires.2 c.requires.3;
+      rules_in_bounds = omega (arith, t, h, l, c.copy-header.ensures.next_is, c.requires.4);
+      order_bound = omega (arith, t, short _ c.requires.0 _ c.requires.1 _ c.requires.2 c.requires.3);
+    }
 
 pub entry-directory-requires : goal.entry-directory-requires
 entry-directory-requires c = let t = total _ c.requires.0 _ c.requires.1 _ c.requires.2 c.requires.3 in
@@ -49,10 +48,10 @@ entry-directory-requires c = let t = total _ c.requires.0 _ c.requires.1 _ c.req
     let l = written_length _ _ _ _ _ c.copy-header.ensures in
     let m = written_length _ _ _ _ _ c.entries-place.ensures.written in
     let d = entries_length c.args.image.now c.args.rules c.args.numbers.now (numbers _ c.requires.0 _ c.requires.1 _ c.requires.2 c.requires.3) (12 + 4 * c.args.rules) in record {
-  from_bound = omega (arith, t, few, c.entries-place.ensures.from_value);
-  size_bound = omega (arith, t, few, c.number_at-count.ensures);
-  at_in_bounds = omega (arith, t, h, l, m, d, c.copy-header.ensures.next_is, c.entries-place.ensures.written.next_is, c.requires.4);
-}
+      from_bound = omega (arith, t, few, c.entries-place.ensures.from_value);
+      size_bound = omega (arith, t, few, c.number_at-count.ensures);
+      at_in_bounds = omega (arith, t, h, l, m, d, c.copy-header.ensures.next_is, c.entries-place.ensures.written.next_is, c.requires.4);
+    }
 
 pub parts-next-requires : goal.parts-next-requires
 parts-next-requires c = let t = total _ c.requires.0 _ c.requires.1 _ c.requires.2 c.requires.3 in
@@ -61,10 +60,10 @@ parts-next-requires c = let t = total _ c.requires.0 _ c.requires.1 _ c.requires
     let m = written_length _ _ _ _ _ c.entries-place.ensures.written in
     let k = written_length _ _ _ _ _ c.entry-directory.ensures in
     let d = entries_length c.args.image.now c.args.rules c.args.numbers.now (numbers _ c.requires.0 _ c.requires.1 _ c.requires.2 c.requires.3) (12 + 4 * c.args.rules) in record {
-  parts_at = parts_at _ c.requires.0 _ c.requires.1 _ c.requires.2 c.requires.3;
-  numbers = numbers _ c.requires.0 _ c.requires.1 _ c.requires.2 c.requires.3;
-  order_in_bounds = omega (arith, t, h, l, m, k, d, c.copy-header.ensures.next_is, c.entries-place.ensures.written.next_is, c.entry-directory.ensures.next_is, c.requires.4);
-}
+      parts_at = parts_at _ c.requires.0 _ c.requires.1 _ c.requires.2 c.requires.3;
+      numbers = numbers _ c.requires.0 _ c.requires.1 _ c.requires.2 c.requires.3;
+      order_in_bounds = omega (arith, t, h, l, m, k, d, c.copy-header.ensures.next_is, c.entries-place.ensures.written.next_is, c.entry-directory.ensures.next_is, c.requires.4);
+    }
 
 pub write-requires : goal.write-requires
 write-requires c = let t = total _ c.requires.0 _ c.requires.1 _ c.requires.2 c.requires.3 in

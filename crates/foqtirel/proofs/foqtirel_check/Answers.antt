@@ -1,7 +1,6 @@
 -- The number of the verdict.
 use mathlib.Core.Path.{ap, ◌∙◌}
 use Rattle.calls.specs.Calls.{verdict_number}
-use borrow.Author.Rules.{rules}
 use Rattle.foqtirel.proofs.foqtirel_check.Goals as goal
 
 pub returns : goal.returns

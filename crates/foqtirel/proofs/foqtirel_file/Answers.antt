@@ -1,7 +1,6 @@
 -- The number of what the writer answers, and the tables as it leaves them.
 use mathlib.Core.Path.{ap, ◌∙◌}
 use Rattle.calls.specs.Calls.{written_number}
-use borrow.Author.Rules.{rules}
 use Rattle.foqtirel.proofs.foqtirel_file.Goals as goal
 
 pub returns : goal.returns

@@ -1,7 +1,6 @@
 -- The number of what the way back answers, and the table as it leaves it.
 use mathlib.Core.Path.{ap, ◌∙◌}
 use Rattle.calls.specs.Calls.{written_number}
-use borrow.Author.Rules.{rules}
 use Rattle.foqtirel.proofs.foqtirel_unfile.Goals as goal
 
 pub returns : goal.returns

@@ -1,7 +1,6 @@
 -- `finish` meets its contract: chains, then counts.
 use mathlib.Core.Path.{◌∙◌}
 use Rattle.program.proofs.Fillings.{counts_hold}
-use borrow.Author.Rules.{rules}
 use Rattle.image.proofs.finish.Goals as goal
 
 pub returns : goal.returns

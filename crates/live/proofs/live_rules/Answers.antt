@@ -1,14 +1,6 @@
-use mathlib.Core.Path.{◌≡◌, refl, sym, ap, subst, ◌∙◌}
-use mathlib.Core.Bool.{true}
-use Prim.Native.Nat.{ℕ, ◌+◌, ◌-◌, ◌<◌, ◌≤◌}
-use lib.ListN.{length}
-use native.Mathlib.Omega.{arith}
+use mathlib.Core.Path.{refl, ◌∙◌}
 use Rattle.literals.specs.Inside.Words.{set_of}
-use Rattle.program.specs.Inside.Table.{rule_count}
-use Rattle.live.specs.Live.{LiveRules}
-use Rattle.live.specs.Steps.{Taken, TakenTo}
-use Rattle.live.proofs.Takings.{taken_none, taken_most, taken_ends}
-use borrow.Author.Rules.{rules}
+use Rattle.live.proofs.Takings.{taken_none, taken_ends}
 use Rattle.live.proofs.live_rules.Goals as goal
 
 pub loop-left-init : goal.loop-left-init

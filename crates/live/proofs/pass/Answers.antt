@@ -1,12 +1,9 @@
-use mathlib.Core.Path.{◌≡◌, refl, sym, ap, subst, ◌∙◌}
-use mathlib.Core.Bool.{true}
-use Prim.Native.Nat.{ℕ, ◌+◌, ◌-◌, ◌<◌, ◌≤◌}
-use lib.ListN.{length}
+use mathlib.Core.Path.{◌≡◌, refl, subst, ◌∙◌}
+use Prim.Native.Nat.{ℕ}
 use native.Mathlib.Omega.{arith}
 use Rattle.literals.specs.Inside.Words.{set_of}
 use Rattle.program.specs.Inside.Table.{rule_count}
-use Rattle.live.specs.Steps.{Taken, TakenTo}
-use borrow.Author.Rules.{rules}
+use Rattle.live.specs.Steps.{TakenTo}
 use Rattle.live.proofs.pass.Goals as goal
 
 pub loop-i-init : goal.loop-i-init

@@ -1,13 +1,9 @@
 -- `pass` meets its contract: the rules before i had their turn.
-use mathlib.Core.Path.{◌≡◌, refl, sym, ap, subst, ◌∙◌}
-use mathlib.Core.Bool.{true}
-use Prim.Native.Nat.{ℕ, ◌+◌, ◌-◌, ◌<◌, ◌≤◌}
+use mathlib.Core.Path.{◌≡◌}
+use Prim.Native.Nat.{◌-◌, ◌≤◌}
 use lib.ListN.{length}
-use native.Mathlib.Omega.{arith}
 use Rattle.literals.specs.Inside.Words.{set_of}
-use Rattle.program.specs.Inside.Table.{rule_count}
 use Rattle.live.specs.Steps.{Taken, TakenTo}
-use borrow.Author.Rules.{rules}
 use Rattle.live.proofs.pass.Given as goal
 
 abbrev pub invariant-loop-i : goal.invariant-loop-i

@@ -1,11 +1,9 @@
 -- `turn` meets its contract, a law for each answer.
 use mathlib.Core.Bool.{not}
-use mathlib.Core.Path.{◌≡◌, refl, sym, ap, ◌∙◌}
-use Prim.Native.Nat.{ℕ, ◌+◌, ◌<◌}
+use mathlib.Core.Path.{refl, sym, ap, ◌∙◌}
 use native.Mathlib.Omega.{arith}
 use Rattle.literals.specs.Inside.Words.{set_of}
 use Rattle.live.proofs.Takings.{taken_room, turn_was, turn_dead, turn_waits, turn_ends, live_tested, cut_body}
-use borrow.Author.Rules.{rules}
 use Rattle.live.proofs.turn.Goals as goal
 
 pub returns-then-has : goal.returns-then-has
@@ -50,7 +48,7 @@ returns c = let ended =
     (cut_body c.args.table.now (set_of c.args.derived) (set_of c.args.literals) c.args.i c.head-head.result (set_of c.body.result) (set_of c.minus-body.result) c.has-2.result c.within.result c.head-head.ensures c.body.ensures c.minus-body.ensures c.has-2.ensures c.within.ensures)
     c.requires.taken _ c.store_row.ensures _ c.insert-2.ensures in
     record {
-  live_len_unchanged = ended.0;
-  taken_2 = ended.1;
-  taken_to = ended.2;
-}
+      live_len_unchanged = ended.0;
+      taken_2 = ended.1;
+      taken_to = ended.2;
+    }

@@ -4,7 +4,6 @@ use lib.Pow.{pow_mono}
 use Rattle.literals.proofs.Words.{shifted_one}
 use Rattle.minima.proofs.Places.{lowers}
 use native.Mathlib.Omega.{arith}
-use borrow.Author.Rules.{rules}
 use Rattle.minima.proofs.lower.Goals as goal
 
 pub overflow_sub-result : goal.overflow_sub-result

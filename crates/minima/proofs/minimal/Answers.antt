@@ -1,14 +1,11 @@
-use mathlib.Core.Path.{◌≡◌, refl, ap, ◌∙◌}
-use mathlib.Core.Bool.{true}
+use mathlib.Core.Path.{refl, ap, ◌∙◌}
 use Prim.Native.Nat.{ℕ, ◌+◌, ◌<◌, ◌^◌}
 use lib.Bits.{and_le_l}
 use lib.ListN.{get_or}
 use Rattle.literals.specs.Sets.{within, minus}
 use Rattle.literals.proofs.Members.{minus_less}
 use Rattle.literals.proofs.Within.{within_refl, within_trans, within_each, minus_within}
-use Rattle.minima.specs.Steps.{Cut}
 use Rattle.minima.proofs.Cuts.{cut_none, cut_more, minima_none, minima}
-use borrow.Author.Rules.{rules}
 use native.Mathlib.Omega.{arith}
 use Rattle.minima.proofs.minimal.Goals as goal
 use Rattle.minima.proofs.minimal.Goals.{After-clear}
@@ -55,12 +52,12 @@ loop-left-smaller c = rw (c.rest-left.ensures _ c.lowest-bit.ensures) (minus_les
 
 pub loop-left-preserved : goal.loop-left-preserved
 loop-left-preserved c = let less = c.rest-left.ensures _ c.lowest-bit.ensures in (
-      ap (λ (x : ℕ). within x c.args.i) less
-          ∙ within_trans (minus c.loop-left.left (2 ^ c.lowest-bit.result)) c.loop-left.left c.args.i (minus_within c.loop-left.left (2 ^ c.lowest-bit.result)) c.loop-left.invariant.0,
-      λ r m.
-          c.loop-left.invariant.1 r
-          (cut_more _ c.args.i c.loop-left.left _ c.lowest-bit.result c.lowest-bit.ensures.member r (rw (less, c.clear.ensures) at m)),
-    )
+  ap (λ (x : ℕ). within x c.args.i) less
+      ∙ within_trans (minus c.loop-left.left (2 ^ c.lowest-bit.result)) c.loop-left.left c.args.i (minus_within c.loop-left.left (2 ^ c.lowest-bit.result)) c.loop-left.invariant.0,
+  λ r m.
+      c.loop-left.invariant.1 r
+      (cut_more _ c.args.i c.loop-left.left _ c.lowest-bit.result c.lowest-bit.ensures.member r (rw (less, c.clear.ensures) at m)),
+)
 
 pub overflow_sub-result : goal.overflow_sub-result
 overflow_sub-result c = and_le_l _ _

@@ -1,16 +1,10 @@
 -- `minimal` meets its contract: the words without one bit of the number i are cut away, then the places without one bit.
-use mathlib.Core.Path.{◌≡◌, refl, ap, ◌∙◌}
+use mathlib.Core.Path.{◌≡◌}
 use mathlib.Core.Bool.{true}
-use Prim.Native.Nat.{ℕ, ◌+◌, ◌<◌, ◌^◌}
-use lib.Bits.{and_le_l}
+use Prim.Native.Nat.{ℕ, ◌+◌}
 use lib.ListN.{get_or}
-use Rattle.literals.specs.Sets.{within, minus}
-use Rattle.literals.proofs.Members.{minus_less}
-use Rattle.literals.proofs.Within.{within_refl, within_trans, within_each, minus_within}
+use Rattle.literals.specs.Sets.{within}
 use Rattle.minima.specs.Steps.{Cut}
-use Rattle.minima.proofs.Cuts.{cut_none, cut_more, minima_none, minima}
-use borrow.Author.Rules.{rules}
-use native.Mathlib.Omega.{arith}
 use Rattle.minima.proofs.minimal.Given as goal
 
 abbrev pub invariant-loop-left : goal.invariant-loop-left

@@ -1,10 +1,6 @@
-use mathlib.Core.Path.{◌≡◌, refl}
-use mathlib.Core.List.{List}
-use Prim.Native.Nat.{ℕ, ◌-◌, ◌≤◌, ◌<◌}
+use mathlib.Core.Path.{refl}
 use native.Mathlib.Nat.{le_trans}
 use native.Mathlib.Omega.{arith}
-use lib.ListN.{length, replicate}
-use Rattle.answer.specs.Tables.{front}
 use Rattle.outcome.proofs.Zeros.{zeros_more, zeros_length, zeros_inside, cleared_all}
 use Rattle.outcome.proofs.clear.Goals as goal
 

@@ -1,12 +1,8 @@
 -- `clear` meets its contract: each turn zeroes one entry more of each table.
-use mathlib.Core.Path.{◌≡◌, refl}
-use mathlib.Core.List.{List}
-use Prim.Native.Nat.{ℕ, ◌-◌, ◌≤◌, ◌<◌}
-use native.Mathlib.Nat.{le_trans}
-use native.Mathlib.Omega.{arith}
-use lib.ListN.{length, replicate}
+use mathlib.Core.Path.{◌≡◌}
+use Prim.Native.Nat.{◌-◌, ◌≤◌}
+use lib.ListN.{replicate}
 use Rattle.answer.specs.Tables.{front}
-use Rattle.outcome.proofs.Zeros.{zeros_more, zeros_length, zeros_inside, cleared_all}
 use Rattle.outcome.proofs.clear.Given as goal
 
 abbrev pub invariant-loop-i : goal.invariant-loop-i

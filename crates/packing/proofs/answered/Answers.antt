@@ -1,8 +1,7 @@
 -- The number of an answer, by its cases: each is the answer's own number.
-use mathlib.Core.Path.{sym, ap, ◌∙◌}
+use mathlib.Core.Path.{ap}
 use native.Mathlib.Omega.{arith}
 use Rattle.calls.specs.Calls.{answered_number}
-use borrow.Author.Rules.{rules}
 use Rattle.packing.proofs.answered.Goals as goal
 
 pub returns-in-Yes : goal.returns-in-Yes

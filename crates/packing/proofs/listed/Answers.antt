@@ -2,7 +2,6 @@
 use mathlib.Core.Path.{sym, ap, ◌∙◌}
 use native.Mathlib.Omega.{arith}
 use Rattle.calls.specs.Calls.{listed_number}
-use borrow.Author.Rules.{rules}
 use Rattle.packing.proofs.listed.Goals as goal
 
 pub returns-in-Count : goal.returns-in-Count

@@ -2,7 +2,6 @@
 use mathlib.Core.Path.{ap}
 use native.Mathlib.Omega.{arith}
 use Rattle.calls.specs.Calls.{packed}
-use borrow.Author.Rules.{rules}
 use Rattle.packing.proofs.pack.Goals as goal
 
 pub overflow_add-result : goal.overflow_add-result

@@ -1,7 +1,6 @@
 -- The number of a verdict, by its cases.
 use mathlib.Core.Path.{sym, ap, ◌∙◌}
 use Rattle.calls.specs.Calls.{verdict_number}
-use borrow.Author.Rules.{rules}
 use Rattle.packing.proofs.verdict.Goals as goal
 
 pub returns-in-Accepted : goal.returns-in-Accepted

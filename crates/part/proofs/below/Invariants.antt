@@ -1,12 +1,8 @@
 -- What is left from the cursor on decides the whole.
-use mathlib.Core.Path.{◌≡◌, refl, sym, ap, ◌∙◌}
-use Prim.Native.Nat.{ℕ, ◌-◌}
+use mathlib.Core.Path.{◌≡◌}
+use Prim.Native.Nat.{◌-◌}
 use lib.ListN.{length, drop}
 use Rattle.layout.specs.Causes.{all_below}
-use Rattle.layout.proofs.Cursors.{byte_ended, byte_is}
-use Rattle.part.proofs.Bytes.{below_end, below_step, below_stop}
-use borrow.Author.Rules.{rules}
-use native.Mathlib.Omega.{arith}
 use Rattle.part.proofs.below.Given as goal
 
 abbrev pub invariant-loop-value : goal.invariant-loop-value

@@ -1,15 +1,11 @@
 -- What is left from the cursor on completes the set and decides both causes.
-use mathlib.Core.Path.{◌≡◌, refl, sym, ap, ◌∙◌}
-use mathlib.Core.Logic.{inl, inr}
-use Prim.Native.Nat.{ℕ, ◌+◌, ◌-◌}
+use mathlib.Core.Path.{◌≡◌}
+use Prim.Native.Nat.{◌-◌}
 use lib.ListN.{length, drop}
-use Rattle.literals.specs.Sets.{insert, insert_all}
+use Rattle.literals.specs.Sets.{insert_all}
 use Rattle.literals.specs.Inside.Words.{set_of}
 use Rattle.layout.specs.Causes.{all_below, ascending}
-use Rattle.layout.proofs.Cursors.{byte_ended, byte_is}
-use Rattle.part.proofs.Bytes.{below_end, below_step, below_stop, insert_next, insert_none, rises, ascending_rises, rises_end, rises_step, rises_stop}
-use borrow.Author.Rules.{rules}
-use native.Mathlib.Omega.{arith}
+use Rattle.part.proofs.Bytes.{rises}
 use Rattle.part.proofs.body_set.Given as goal
 
 abbrev pub invariant-loop-value : goal.invariant-loop-value

@@ -12,7 +12,6 @@ use Rattle.part.specs.Inside.Steps.{BodyRead}
 use Rattle.layout.proofs.Cursors.{pair_ended, pair_is}
 use Rattle.part.proofs.Verdicts.{part_refused, part_short, part_long, part_kind, part_head, part_body, strict_read, part_empty, part_seventeenth, defeasible_read}
 use native.Mathlib.Omega.{arith}
-use borrow.Author.Rules.{rules}
 use Rattle.part.proofs.read.Goals as goal
 
 -- kind and head, and where the body begins

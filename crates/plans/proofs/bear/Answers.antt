@@ -1,5 +1,4 @@
 -- `bear` meets its contract: the rule adds nothing, or what it needs and what bears on its body.
-use mathlib.Core.Path.{◌∙◌}
 use lib.Bits.{or_lt}
 use lib.ListN.{get_or}
 use Rattle.literals.specs.Inside.Words.{set_of}

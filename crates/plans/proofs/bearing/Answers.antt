@@ -1,13 +1,6 @@
-use mathlib.Core.Path.{◌≡◌, refl, sym, ◌∙◌}
-use mathlib.Core.Bool.{Bool, true, false, false≢true}
-use Prim.Native.Nat.{ℕ, ◌+◌}
-use lib.ListN.{length}
-use Rattle.lists.specs.Lists.{choose}
-use Rattle.rows.specs.Steps.{slack}
-use Rattle.rows.specs.Layout.{Bearing}
-use Rattle.plans.specs.Steps.{Small}
+use mathlib.Core.Path.{sym, ◌∙◌}
+use mathlib.Core.Bool.{false≢true}
 use Rattle.plans.proofs.Bearings.{small_empty, bears_all, bears_falls}
-use borrow.Author.Rules.{rules}
 use Rattle.plans.proofs.bearing.Goals as goal
 
 pub loop-grown-init : goal.loop-grown-init

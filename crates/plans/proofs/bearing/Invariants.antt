@@ -1,14 +1,12 @@
 -- `bearing` meets its contract.
-use mathlib.Core.Path.{◌≡◌, refl, sym, ◌∙◌}
-use mathlib.Core.Bool.{Bool, true, false, false≢true}
+use mathlib.Core.Path.{◌≡◌}
+use mathlib.Core.Bool.{false}
 use Prim.Native.Nat.{ℕ, ◌+◌}
 use lib.ListN.{length}
 use Rattle.lists.specs.Lists.{choose}
 use Rattle.rows.specs.Steps.{slack}
 use Rattle.rows.specs.Layout.{Bearing}
 use Rattle.plans.specs.Steps.{Small}
-use Rattle.plans.proofs.Bearings.{small_empty, bears_all, bears_falls}
-use borrow.Author.Rules.{rules}
 use Rattle.plans.proofs.bearing.Given as goal
 
 abbrev pub invariant-loop-grown : goal.invariant-loop-grown

@@ -1,7 +1,5 @@
-use mathlib.Core.Path.{◌≡◌, refl}
-use Prim.Native.Nat.{ℕ}
+use mathlib.Core.Path.{refl}
 use Rattle.literals.proofs.Members.{minus_less}
-use Rattle.plans.specs.Steps.{Joined}
 use Rattle.plans.proofs.Bearings.{joined_none, joined_more}
 use native.Mathlib.Omega.{arith}
 use Rattle.plans.proofs.join.Goals as goal

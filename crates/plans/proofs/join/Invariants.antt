@@ -1,10 +1,6 @@
 -- `join` meets its contract: what is joined of the literals left is joined of all.
-use mathlib.Core.Path.{◌≡◌, refl}
 use Prim.Native.Nat.{ℕ}
-use Rattle.literals.proofs.Members.{minus_less}
 use Rattle.plans.specs.Steps.{Joined}
-use Rattle.plans.proofs.Bearings.{joined_none, joined_more}
-use native.Mathlib.Omega.{arith}
 use Rattle.plans.proofs.join.Given as goal
 
 abbrev pub invariant-loop-left : goal.invariant-loop-left

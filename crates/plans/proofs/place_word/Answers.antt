@@ -1,9 +1,7 @@
-use mathlib.Core.Path.{◌≡◌, sym, ◌∙◌, refl}
-use Prim.Native.Nat.{ℕ, ◌+◌, ◌*◌, ◌<◌, ◌≤◌}
-use lib.ListN.{length, get_or}
+use Prim.Native.Nat.{◌+◌}
 use native.Mathlib.Omega.{arith}
 use Rattle.literals.proofs.Members.{minus_less}
-use Rattle.plans.proofs.Places.{PlacedLeft, left_all, left_more, left_none}
+use Rattle.plans.proofs.Places.{left_all, left_more, left_none}
 use Rattle.plans.proofs.place_word.Goals as goal
 
 pub loop-left-init : goal.loop-left-init

@@ -1,8 +1,4 @@
-use mathlib.Core.Path.{◌≡◌}
-use Prim.Native.Nat.{ℕ, ◌-◌, ◌≤◌}
-use Rattle.plans.specs.Steps.{Bears}
 use Rattle.plans.proofs.Bearings.{bears_start, bears_then, bears_whole}
-use borrow.Author.Rules.{rules}
 use native.Mathlib.Omega.{arith}
 use Rattle.plans.proofs.round.Goals as goal
 

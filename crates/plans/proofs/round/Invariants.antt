@@ -1,10 +1,6 @@
 -- `round` meets its contract: the rules up to i have passed.
-use mathlib.Core.Path.{◌≡◌}
-use Prim.Native.Nat.{ℕ, ◌-◌, ◌≤◌}
+use Prim.Native.Nat.{◌-◌, ◌≤◌}
 use Rattle.plans.specs.Steps.{Bears}
-use Rattle.plans.proofs.Bearings.{bears_start, bears_then, bears_whole}
-use borrow.Author.Rules.{rules}
-use native.Mathlib.Omega.{arith}
 use Rattle.plans.proofs.round.Given as goal
 
 abbrev pub invariant-loop-i : goal.invariant-loop-i

@@ -1,19 +1,12 @@
 -- `preference::beats_some` meets its contract: the bits that are left beat a rule of z exactly if those of x do, and each
 -- turn takes one of them away.
-use mathlib.Core.Path.{◌≡◌, refl, sym, ap, ◌∙◌}
-use mathlib.Core.Bool.{Bool, true, not}
+use mathlib.Core.Path.{◌≡◌}
 use mathlib.Core.List.{List}
-use Prim.Native.Nat.{ℕ, ◌≤◌, ◌^◌}
-use native.Mathlib.Omega.{arith}
-use lib.Bits.{bit_and}
-use borrow.Author.Tests.{eq-eqb, ne_eqb}
-use Rattle.literals.specs.Sets.{has, minus}
-use Rattle.literals.proofs.Members.{has_bound, minus_less}
+use Prim.Native.Nat.{ℕ, ◌≤◌}
 use Rattle.program.specs.Program.{Program}
 use Rattle.program.specs.Limits.{Limits, Mask}
-use Rattle.program.specs.Inside.Table.{Holds, beaten_at}
+use Rattle.program.specs.Inside.Table.{Holds}
 use Rattle.preference.specs.Preference.{beats_some}
-use Rattle.preference.proofs.Preferences.{beats_some_none, beats_some_met, beats_some_rest}
 use Rattle.preference.proofs.beats_some.Given as goal
 
 -- what holds while `rest` is left of x

@@ -1,7 +1,6 @@
 -- `preference::preferred` meets its contract: the second test is made only where the first passes.
 use mathlib.Core.Path.{◌≡◌, sym, ap, ◌∙◌}
 use mathlib.Core.Bool.{Bool, true, false, not, ◌&&◌}
-use borrow.Author.Rules.{rules}
 use Rattle.preference.specs.Preference.{beats_some}
 use Rattle.preference.proofs.preferred.Goals as goal
 

@@ -1,6 +1,6 @@
 -- The rule table: the words that the engine reads a program from, and which program they hold. Its layout stands here and
 -- in the accessors, and nowhere else.
-use Rattle.std.specs.Prelude.{◌≡◌, Bool, true, false, List, ℕ, ◌+◌, ◌*◌, ◌^◌, ◌<◌, ◌≤◌, length, get_or}
+use Rattle.std.specs.Prelude.{◌≡◌, true, List, ℕ, ◌+◌, ◌*◌, ◌^◌, ◌<◌, ◌≤◌, length, get_or}
 use Rattle.literals.specs.Sets.{has, insert_all}
 use Rattle.literals.specs.Inside.Words.{joined}
 use Rattle.program.specs.Program.{Kind, strict, defeasible, Rule, Program, is_defeasible, defeasibles, bit_of, rule_at}

@@ -1,10 +1,7 @@
 -- `clear` meets its contract: each turn clears one word more.
-use mathlib.Core.Path.{◌≡◌, refl}
+use mathlib.Core.Path.{◌≡◌}
 use Prim.Native.Nat.{ℕ, ◌-◌, ◌≤◌, ◌<◌}
-use lib.ListN.{length, get_or, length-set}
-use Rattle.rows.proofs.Words.{zeros_more, zeros_all}
-use borrow.Author.Rules.{rules}
-use native.Mathlib.Omega.{arith}
+use lib.ListN.{length, get_or}
 use Rattle.rows.proofs.clear.Given as goal
 
 abbrev pub invariant-loop-l : goal.invariant-loop-l

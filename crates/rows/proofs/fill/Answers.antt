@@ -1,12 +1,7 @@
-use mathlib.Core.Path.{◌≡◌, refl, sym, subst, ◌∙◌}
-use mathlib.Core.Bool.{Bool, true, false, false≢true}
-use Prim.Native.Nat.{ℕ, ◌+◌}
-use lib.ListN.{length}
-use Rattle.lists.specs.Lists.{choose}
-use Rattle.rows.specs.Layout.{Placed, Rows}
-use Rattle.rows.specs.Steps.{slack}
-use Rattle.rows.proofs.Filled.{Grown, grown_none, grown_more, round_fills, round_falls}
-use borrow.Author.Rules.{rules}
+use mathlib.Core.Path.{sym, subst}
+use mathlib.Core.Bool.{false≢true}
+use Rattle.rows.specs.Layout.{Placed}
+use Rattle.rows.proofs.Filled.{grown_none, grown_more, round_fills, round_falls}
 use Rattle.rows.proofs.fill.Goals as goal
 
 pub loop-late-init : goal.loop-late-init

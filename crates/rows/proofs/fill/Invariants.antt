@@ -1,13 +1,11 @@
 -- `fill` meets its contract: what the rows have is derived, and after the last round they have all that is.
-use mathlib.Core.Path.{◌≡◌, refl, sym, subst, ◌∙◌}
-use mathlib.Core.Bool.{Bool, true, false, false≢true}
+use mathlib.Core.Path.{◌≡◌}
+use mathlib.Core.Bool.{false}
 use Prim.Native.Nat.{ℕ, ◌+◌}
-use lib.ListN.{length}
 use Rattle.lists.specs.Lists.{choose}
-use Rattle.rows.specs.Layout.{Placed, Rows}
+use Rattle.rows.specs.Layout.{Rows}
 use Rattle.rows.specs.Steps.{slack}
-use Rattle.rows.proofs.Filled.{Grown, grown_none, grown_more, round_fills, round_falls}
-use borrow.Author.Rules.{rules}
+use Rattle.rows.proofs.Filled.{Grown}
 use Rattle.rows.proofs.fill.Given as goal
 
 abbrev pub invariant-loop-late : goal.invariant-loop-late

@@ -1,16 +1,13 @@
-use mathlib.Core.Path.{◌≡◌, refl, sym, ap, subst, ◌∙◌}
+use mathlib.Core.Path.{sym, ap, subst, ◌∙◌}
 use Rattle.rows.specs.Layout.{Placed}
-use mathlib.Core.Bool.{true}
-use Prim.Native.Nat.{ℕ, ◌-◌, ◌/◌, ◌<◌, ◌≤◌}
+use Prim.Native.Nat.{ℕ, ◌-◌, ◌/◌}
 use Rattle.rows.specs.Steps.{LowWord}
-use lib.Bits.{bit_and, and_le_l}
-use lib.ListN.{length, get_or}
+use lib.Bits.{and_le_l}
+use lib.ListN.{get_or}
 use Rattle.literals.specs.Sets.{within}
-use Rattle.literals.proofs.Within.{within_refl, within_le}
-use Rattle.rows.specs.Steps.{Fires, Above}
+use Rattle.literals.proofs.Within.{within_refl}
 use Rattle.rows.proofs.Views.{cut_within}
-use Rattle.rows.proofs.Firings.{Beyond, fires_none, fires_then, fires_fewer, fires_zero, above_cases, beyond_next, none_beyond}
-use borrow.Author.Rules.{rules}
+use Rattle.rows.proofs.Firings.{fires_none, fires_then, fires_fewer, fires_zero, above_cases, beyond_next, none_beyond}
 use native.Mathlib.Omega.{arith}
 use Rattle.rows.proofs.fire.Goals as goal
 

@@ -1,5 +1,5 @@
 -- `fire_word` meets its contract: the word lacks the need, or the rule adds nothing, or its head.
-use mathlib.Core.Path.{◌≡◌, sym, ap, ◌∙◌}
+use mathlib.Core.Path.{sym, ap, ◌∙◌}
 use Prim.Native.Nat.{ℕ, ◌+◌, ◌^◌, ◌<◌}
 use lib.Bits.{bit_and, or_lt}
 use lib.ListN.{length, get_or}

@@ -23,10 +23,10 @@ returns-then-need-eq32 c = chooses_place 5 _ _ (omega arith) thirtytwos_place c.
 
 pub returns : goal.returns
 returns c = chooses_all _ (record {
-      one = c.if-need-eq1.false;
-      two = c.if-need-eq2.false;
-      four = c.if-need-eq4.false;
-      eight = c.if-need-eq8.false;
-      sixteen = c.if-need-eq16.false;
-      thirtytwo = c.if-need-eq32.false;
-    })
+  one = c.if-need-eq1.false;
+  two = c.if-need-eq2.false;
+  four = c.if-need-eq4.false;
+  eight = c.if-need-eq8.false;
+  sixteen = c.if-need-eq16.false;
+  thirtytwo = c.if-need-eq32.false;
+})

@@ -1,14 +1,10 @@
-use mathlib.Core.Path.{◌≡◌, refl}
+use mathlib.Core.Path.{refl}
 use Prim.Native.Nat.{ℕ, ◌+◌, ◌^◌, ◌<◌}
-use mathlib.Core.Bool.{true}
-use Rattle.literals.specs.Sets.{within}
 use Rattle.literals.proofs.Within.{within_refl, within_each, within_trans, minus_within}
 use lib.Bits.{bit_and, and_le_r}
 use lib.ListN.{length, get_or}
 use Rattle.literals.proofs.Members.{minus_less}
-use Rattle.rows.specs.Steps.{Met}
 use Rattle.rows.proofs.Meets.{met_none, met_more}
-use Rattle.rows.specs.Layout.{word_of}
 use native.Mathlib.Omega.{arith}
 use Rattle.rows.proofs.meet.Goals as goal
 use Rattle.rows.proofs.meet.Goals.{After-lowest}

@@ -1,12 +1,8 @@
-use mathlib.Core.Path.{◌≡◌, subst, sym, ◌∙◌, ap}
-use Prim.Native.Nat.{ℕ, ◌-◌, ◌≤◌}
-use lib.ListN.{length}
+use mathlib.Core.Path.{subst, sym, ◌∙◌, ap}
 use Rattle.literals.specs.Sets.{union}
 use Rattle.literals.specs.Inside.Words.{set_of}
 use Rattle.rows.specs.Layout.{Placed}
-use Rattle.rows.specs.Steps.{Rounds}
 use Rattle.rows.proofs.Firings.{rounds_none, rounds_step, rounds_whole}
-use borrow.Author.Rules.{rules}
 use native.Mathlib.Omega.{arith}
 use Rattle.rows.proofs.round.Goals as goal
 

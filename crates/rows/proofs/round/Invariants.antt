@@ -1,14 +1,7 @@
 -- `round` meets its contract: the rules up to i have passed.
-use mathlib.Core.Path.{◌≡◌, subst, sym, ◌∙◌, ap}
-use Prim.Native.Nat.{ℕ, ◌-◌, ◌≤◌}
-use lib.ListN.{length}
-use Rattle.literals.specs.Sets.{union}
+use Prim.Native.Nat.{◌-◌, ◌≤◌}
 use Rattle.literals.specs.Inside.Words.{set_of}
-use Rattle.rows.specs.Layout.{Placed}
 use Rattle.rows.specs.Steps.{Rounds}
-use Rattle.rows.proofs.Firings.{rounds_none, rounds_step, rounds_whole}
-use borrow.Author.Rules.{rules}
-use native.Mathlib.Omega.{arith}
 use Rattle.rows.proofs.round.Given as goal
 
 abbrev pub invariant-loop-i : goal.invariant-loop-i

@@ -1,5 +1,4 @@
 -- `list` meets its contract: each size writes the list of the program that was planned.
-use borrow.Author.Rules.{rules}
 use Rattle.sizes.proofs.list.Goals as goal
 
 pub returns-then-last-lt512 : goal.returns-then-last-lt512

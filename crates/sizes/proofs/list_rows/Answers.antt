@@ -1,10 +1,8 @@
 -- `list_rows` meets its contract.
-use mathlib.Core.Path.{◌≡◌, sym, ◌∙◌, subst}
-use Prim.Native.Nat.{ℕ}
+use mathlib.Core.Path.{sym, subst}
 use Rattle.literals.specs.Inside.Words.{set_of}
 use Rattle.collecting.specs.Inside.Columns.{Derivable}
 use Rattle.closing.proofs.Masks.{plan_derivable}
-use borrow.Author.Rules.{rules}
 use Rattle.sizes.proofs.list_rows.Goals as goal
 
 pub returns : goal.returns

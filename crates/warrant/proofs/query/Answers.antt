@@ -3,7 +3,7 @@
 use mathlib.Core.Path.{◌≡◌, ap, ◌∙◌}
 use Prim.Native.Nat.{◌≤◌}
 use native.Mathlib.Omega.{arith}
-use lib.ListN.{length, length-replicate}
+use lib.ListN.{length}
 use Rattle.tree.specs.Inside.Tables.{Columns, columns}
 use Rattle.answer.specs.Answer.{nodes_of}
 use Rattle.answer.specs.Tables.{front}
@@ -17,7 +17,7 @@ write-requires c =
     let a = c.args in
     let k = query_nodes_within a.image.now a.literal a.budget (length a.arguments.now) (length a.nodes.now) in
     let counted : c.count.result ≡ nodes_of (queried a.image.now a.literal a.budget (length a.arguments.now) (length a.nodes.now)) =
-        c.count.ensures ∙ ap nodes_of c.query-answer.ensures.0 in
+    c.count.ensures ∙ ap nodes_of c.query-answer.ensures.0 in
     let few : c.count.result ≤ 4096 = omega (arith, k.0) in (
       omega (arith, k.1),
       record {

@@ -1,10 +1,8 @@
 use mathlib.Core.Path.{refl, ap}
-use Prim.Native.Nat.{◌-◌}
 use native.Mathlib.Omega.{arith}
-use lib.ListN.{length, drop, drop_of_length-le}
-use Rattle.lists.proofs.Stores.{Writing, writing_all, writing_one, writing_none}
+use lib.ListN.{length, drop_of_length-le}
+use Rattle.lists.proofs.Stores.{writing_all, writing_one, writing_none}
 use Rattle.part.proofs.Bytes.{drop_at}
-use borrow.Author.Rules.{rules}
 use Rattle.writing.proofs.copy.Goals as goal
 
 pub loop-k-init : goal.loop-k-init

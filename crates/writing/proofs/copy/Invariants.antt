@@ -1,11 +1,7 @@
 -- The bytes from the k-th on are left to be written.
-use mathlib.Core.Path.{refl, ap}
 use Prim.Native.Nat.{◌-◌}
-use native.Mathlib.Omega.{arith}
-use lib.ListN.{length, drop, drop_of_length-le}
-use Rattle.lists.proofs.Stores.{Writing, writing_all, writing_one, writing_none}
-use Rattle.part.proofs.Bytes.{drop_at}
-use borrow.Author.Rules.{rules}
+use lib.ListN.{length, drop}
+use Rattle.lists.proofs.Stores.{Writing}
 use Rattle.writing.proofs.copy.Given as goal
 
 abbrev pub invariant-loop-k : goal.invariant-loop-k

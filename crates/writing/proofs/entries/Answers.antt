@@ -2,8 +2,7 @@ use Prim.Native.Nat.{◌+◌, ◌-◌, ◌<◌, ◌≤◌}
 use native.Mathlib.Omega.{arith}
 use lib.ListN.{length}
 use Rattle.layout.proofs.Parts.{located_order}
-use Rattle.writing.proofs.Outputs.{Entering, entering_all, entering_none, entry_fits, entry_written}
-use borrow.Author.Rules.{rules}
+use Rattle.writing.proofs.Outputs.{entering_all, entering_none, entry_fits, entry_written}
 use Rattle.writing.proofs.entries.Goals as goal
 use Rattle.writing.proofs.entries.Goals.{After-locate-span}
 
@@ -41,4 +40,4 @@ shape_of-out c = c.loop-k.invariant.writing.kept
 pub returns : goal.returns
 returns c =
     let all = entering_none _ _ _ _ _ _ c.requires.numbers _ _ _ _ c.loop-k.invariant c.loop-k-test.false in
-    record { written = all.0; from_value = all.1; }
+    record { written = all.0; from_value = all.1 }

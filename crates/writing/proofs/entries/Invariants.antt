@@ -1,10 +1,6 @@
 -- The entries of the parts from the k-th number on are left to be written.
-use Prim.Native.Nat.{◌+◌, ◌-◌, ◌<◌, ◌≤◌}
-use native.Mathlib.Omega.{arith}
-use lib.ListN.{length}
-use Rattle.layout.proofs.Parts.{located_order}
-use Rattle.writing.proofs.Outputs.{Entering, entering_all, entering_none, entry_fits, entry_written}
-use borrow.Author.Rules.{rules}
+use Prim.Native.Nat.{◌-◌}
+use Rattle.writing.proofs.Outputs.{Entering}
 use Rattle.writing.proofs.entries.Given as goal
 
 abbrev pub invariant-loop-k : goal.invariant-loop-k

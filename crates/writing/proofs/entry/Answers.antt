@@ -1,7 +1,6 @@
 -- One number after the other.
 use mathlib.Core.Path.{refl}
 use Rattle.lists.proofs.Stores.{written_append}
-use borrow.Author.Rules.{rules}
 use Rattle.writing.proofs.entry.Goals as goal
 
 pub returns : goal.returns

@@ -2,7 +2,6 @@
 use lib.ListN.{length-set}
 use Rattle.writing.proofs.Outputs.{written_two}
 use native.Mathlib.Omega.{arith}
-use borrow.Author.Rules.{rules}
 use Rattle.writing.proofs.number.Goals as goal
 
 pub bounds-out-at-2 : goal.bounds-out-at-2

@@ -1,13 +1,9 @@
 -- The parts from the k-th number on are left to be written.
-use mathlib.Core.Path.{ap}
 use Prim.Native.Nat.{◌-◌}
-use native.Mathlib.Omega.{arith}
-use Rattle.lists.proofs.Stores.{Writing, writing_all, writing_none}
-use Rattle.layout.proofs.Parts.{located_order, located_inside}
+use Rattle.lists.proofs.Stores.{Writing}
 use Rattle.writing.specs.Image.{together}
 use Rattle.writing.specs.Inside.Steps.{parts_by}
-use Rattle.writing.proofs.Outputs.{parts_from, parts_all, parts_none, part_room, part_written}
-use borrow.Author.Rules.{rules}
+use Rattle.writing.proofs.Outputs.{parts_from}
 use Rattle.writing.proofs.parts.Given as goal
 
 abbrev pub invariant-loop-k : goal.invariant-loop-k

@@ -2,12 +2,11 @@
 use mathlib.Core.Path.{refl, ap, ◌∙◌}
 use mathlib.Core.List.{List}
 use native.Mathlib.Omega.{arith}
-use Rattle.program.specs.Program.{Program, Rule, Π_mask}
+use Rattle.program.specs.Program.{Rule, Π_mask}
 use Rattle.derivation.specs.Closure.{closure}
 use Rattle.derivation.proofs.Choices.{Π_mask_empty}
 use Rattle.derivation.proofs.Tables.{limits_shaped}
 use Rattle.decision.proofs.Decisions.{prepared, roots_ready}
-use borrow.Author.Rules.{rules}
 use Rattle.decision.proofs.answering.grow.Goals as goal
 
 pub close-derived-requires : goal.close-derived-requires
@@ -21,8 +20,8 @@ fill-requires c = let w = c.requires.asked.held in
 pub forest-requires : goal.forest-requires
 forest-requires c = let w = c.requires.asked.held in record {
   roots_ready = roots_ready w c.requires.listing _ _ c.conclusions-conclusions.ensures
-          (λ p holds. c.fill.ensures refl p holds (c.close-derived.ensures p holds ∙ ap (closure (Π_mask 0 p.rules)) c.empty.ensures ∙ ap (λ (l : List Rule). closure l 0) (Π_mask_empty p.rules)))
-          _ _ _ _ c.requires.asked (omega arith);
+      (λ p holds. c.fill.ensures refl p holds (c.close-derived.ensures p holds ∙ ap (closure (Π_mask 0 p.rules)) c.empty.ensures ∙ ap (λ (l : List Rule). closure l 0) (Π_mask_empty p.rules)))
+      _ _ _ _ c.requires.asked (omega arith);
   literal_bound = c.requires.asked.literal_below;
 }
 

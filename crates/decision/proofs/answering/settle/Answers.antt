@@ -1,11 +1,9 @@
 -- `settle` meets its contract: the rows, the list, then the answer.
-use mathlib.Core.Path.{◌≡◌, sym, ◌∙◌, subst}
+use mathlib.Core.Path.{sym, ◌∙◌, subst}
 use Rattle.literals.specs.Inside.Words.{set_of}
 use Rattle.collecting.specs.Inside.Columns.{Derivable}
 use Rattle.closing.proofs.Masks.{plan_derivable}
-use Rattle.decision.specs.Inside.Steps.{Held}
 use Rattle.decision.proofs.Settlements.{listing, settled_listed, settled_over}
-use borrow.Author.Rules.{rules}
 use Rattle.decision.proofs.answering.settle.Goals as goal
 
 pub fill-requires : goal.fill-requires

@@ -1,13 +1,8 @@
-use mathlib.Core.Path.{◌≡◌, sym, ap, ◌∙◌}
-use mathlib.Core.Bool.{Bool, true, false}
-use Prim.Native.Nat.{◌-◌, ◌≤◌, ◌<◌}
+use mathlib.Core.Path.{sym, ◌∙◌}
+use Prim.Native.Nat.{◌<◌}
 use lib.ListN.{length}
 use native.Mathlib.Omega.{arith}
-use borrow.Author.Rules.{rules}
-use Rattle.program.specs.Program.{Program, bit_of, rule_at}
-use Rattle.program.specs.Inside.Table.{Holds}
-use Rattle.answer.specs.Answer.{occurs}
-use Rattle.decision.proofs.Occurrences.{occurs_from, occurs_start, occurs_here, occurs_later, occurs_nowhere}
+use Rattle.decision.proofs.Occurrences.{occurs_start, occurs_here, occurs_later, occurs_nowhere}
 use Rattle.decision.proofs.occurrence.occurs.Goals as goal
 
 pub loop-i-init : goal.loop-i-init

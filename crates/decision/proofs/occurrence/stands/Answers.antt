@@ -1,5 +1,4 @@
 -- `stands` meets its contract: by the head, then by the two literals of the atom in the body.
-use borrow.Author.Rules.{rules}
 use Rattle.decision.proofs.Occurrences.{head_stands, plain_stands, negated_stands}
 use Rattle.decision.proofs.occurrence.stands.Goals as goal
 

@@ -1,7 +1,5 @@
 -- The table has room.
-use Prim.Native.Nat.{◌+◌, ◌<◌}
 use native.Mathlib.Omega.{arith}
-use borrow.Author.Rules.{rules}
 use Rattle.decision.proofs.sized.middle.Goals as goal
 
 pub settle-requires : goal.settle-requires

@@ -1,18 +1,16 @@
 -- `query` meets its contract, by the size of the table of rows.
-use Prim.Native.Nat.{◌+◌, ◌<◌, ◌≤◌}
 use mathlib.Core.Path.{refl}
 use native.Mathlib.Omega.{arith}
 use Rattle.derivation.proofs.Tables.{limits_shaped}
 use Rattle.closing.proofs.Masks.{limits_needs}
-use borrow.Author.Rules.{rules}
 use Rattle.decision.proofs.sized.query.Goals as goal
 
 pub plan-plan-requires : goal.plan-plan-requires
 plan-plan-requires c = let w = c.requires.held in
     record {
-  shaped = (limits_shaped w.program _ w.holds w.limits, limits_needs w.program _ w.holds w.limits);
-  live_len = (refl, refl, refl);
-}
+      shaped = (limits_shaped w.program _ w.holds w.limits, limits_needs w.program _ w.holds w.limits);
+      live_len = (refl, refl, refl);
+    }
 
 pub small-requires : goal.small-requires
 small-requires c = record {

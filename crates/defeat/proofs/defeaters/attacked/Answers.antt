@@ -1,7 +1,6 @@
 -- `defeaters::attacked` meets its contract: the literal is looked at only where the mask is within y.
 use mathlib.Core.Path.{ap, ◌∙◌}
 use Prim.Native.Nat.{ℕ}
-use borrow.Author.Rules.{rules}
 use Rattle.literals.specs.Sets.{has, within}
 use Rattle.literals.specs.Inside.Words.{set_of}
 use Rattle.literals.proofs.Tests.{and_passed, and_failed}

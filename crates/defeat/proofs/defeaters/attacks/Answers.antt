@@ -1,7 +1,7 @@
 -- `defeaters::attacks` meets its contract: in the low word of the row, or else in the high one.
-use mathlib.Core.Path.{◌≡◌, sym, ap, ◌∙◌, subst}
+use mathlib.Core.Path.{sym, ap, ◌∙◌, subst}
 use mathlib.Core.Bool.{true, false}
-use Prim.Native.Nat.{ℕ, ◌^◌, ◌<◌}
+use Prim.Native.Nat.{ℕ}
 use Rattle.literals.specs.Inside.Words.{set_of}
 use Rattle.excluded.specs.Inside.Exclusions.{excluded_by}
 use Rattle.defeat.specs.Inside.Steps.{SomeDerived}

@@ -5,7 +5,6 @@ use Rattle.program.specs.Limits.{Mask}
 use Rattle.preference.specs.Preference.{preferred_test}
 use Rattle.excluded.specs.Inside.Exclusions.{excluded_by}
 use Rattle.defeat.proofs.Attacks.{listed_mask_lem, kind_strict, kind_weighed}
-use borrow.Author.Rules.{rules}
 use Rattle.defeat.proofs.defeaters.kind.Goals as goal
 
 pub returns-then-x-lt128 : goal.returns-then-x-lt128

@@ -1,9 +1,7 @@
-use mathlib.Core.Path.{◌≡◌, refl, sym, ap, ◌∙◌}
-use mathlib.Core.Bool.{Bool, true, false}
-use Prim.Native.Nat.{ℕ, ◌+◌, ◌^◌, ◌<◌}
+use mathlib.Core.Path.{sym, ◌∙◌}
+use mathlib.Core.Bool.{true, false}
 use native.Mathlib.Omega.{arith}
 use Rattle.literals.proofs.Members.{minus_less}
-use Rattle.defeat.specs.Inside.Steps.{SomeDerived}
 use Rattle.defeat.proofs.Searching.{some_none, some_here, some_more}
 use Rattle.defeat.proofs.defeaters.some_derived.Goals as goal
 

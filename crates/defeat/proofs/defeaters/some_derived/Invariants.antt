@@ -1,11 +1,6 @@
 -- `defeaters::some_derived` meets its contract: one literal at a time.
-use mathlib.Core.Path.{◌≡◌, refl, sym, ap, ◌∙◌}
-use mathlib.Core.Bool.{Bool, true, false}
-use Prim.Native.Nat.{ℕ, ◌+◌, ◌^◌, ◌<◌}
-use native.Mathlib.Omega.{arith}
-use Rattle.literals.proofs.Members.{minus_less}
+use mathlib.Core.Bool.{Bool}
 use Rattle.defeat.specs.Inside.Steps.{SomeDerived}
-use Rattle.defeat.proofs.Searching.{some_none, some_here, some_more}
 use Rattle.defeat.proofs.defeaters.some_derived.Given as goal
 
 abbrev pub invariant-loop-left : goal.invariant-loop-left

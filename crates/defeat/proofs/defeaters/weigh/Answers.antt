@@ -1,22 +1,5 @@
-use mathlib.Core.Path.{◌≡◌, sym, ap, ◌∙◌}
-use mathlib.Core.Bool.{Bool, true, false}
-use mathlib.Core.List.{List, ◌∷◌}
-use Prim.Native.Nat.{ℕ, ◌+◌, ◌-◌, ◌<◌, ◌≤◌}
+use mathlib.Core.Path.{sym, ◌∙◌}
 use native.Mathlib.Omega.{arith}
-use lib.ListN.{length, get_or, take, drop, drop_of_length-le}
-use lib.Seq.{length-take-le}
-use borrow.Author.Tests.{not-true, not-false}
-use borrow.Author.Rules.{rules}
-use Rattle.literals.specs.Inside.Words.{set_of}
-use Rattle.program.specs.Program.{Program}
-use Rattle.program.specs.Limits.{Limits, Mask}
-use Rattle.program.specs.Inside.Table.{Holds}
-use Rattle.argument.specs.Argument.{mask_of}
-use Rattle.argument.specs.List.{argument_list}
-use Rattle.preference.specs.Preference.{preferred_test}
-use Rattle.defeat.specs.Inside.Steps.{attacked_by, kind_among}
-use Rattle.defeat.proofs.Weighing.{kind_left, left_start, left_none, left_skip, left_proper, left_under, left_neither}
-use Rattle.defeat.proofs.Attacks.{listed_mask_lem, entry_listed, entry_first, entry_past}
 use Rattle.defeat.proofs.defeaters.weigh.Invariants.{left_all, left_end, turn_past, turn_skip, turn_proper, turn_under, turn_neither}
 use Rattle.defeat.proofs.defeaters.weigh.Goals as goal
 
@@ -43,9 +26,9 @@ preferred-requires c = let masks = c.requires.x_bound in
     let small = c.requires.numbers.small c.loop-i.i c.loop-i-test.true in
     let mask = c.mask_of-mask.ensures in
     record {
-  x_bound = omega arith;
-  z_bound = omega arith;
-}
+      x_bound = omega arith;
+      z_bound = omega arith;
+    }
 
 pub returns-then-preferred : goal.returns-then-preferred
 returns-then-preferred c = let attacked = sym c.attacked.ensures ∙ c.if-not-attacked.false in
@@ -58,9 +41,9 @@ preferred-requires-in-loop-i c = let masks = c.requires.x_bound in
     let small = c.requires.numbers.small c.loop-i.i c.loop-i-test.true in
     let mask = c.mask_of-mask.ensures in
     record {
-  x_bound = omega arith;
-  z_bound = omega arith;
-}
+      x_bound = omega arith;
+      z_bound = omega arith;
+    }
 
 pub loop-i-preserved-then-preferred-2 : goal.loop-i-preserved-then-preferred-2
 loop-i-preserved-then-preferred-2 c = let attacked = sym c.attacked.ensures ∙ c.if-not-attacked.false in

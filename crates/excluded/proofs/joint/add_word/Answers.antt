@@ -4,8 +4,7 @@ use Rattle.literals.specs.Sets.{union}
 use Rattle.literals.specs.Inside.Words.{set_of}
 use Rattle.literals.proofs.Members.{minus_less}
 use Rattle.excluded.specs.Inside.Rows.{Gained}
-use Rattle.excluded.proofs.Eaches.{Going, going_none, going_more, going_all}
-use borrow.Author.Rules.{rules}
+use Rattle.excluded.proofs.Eaches.{going_none, going_more, going_all}
 use native.Mathlib.Omega.{arith}
 use Rattle.excluded.proofs.joint.add_word.Goals as goal
 

@@ -1,13 +1,7 @@
 -- `joint::add_word` meets its contract: what is left, once done, makes the whole.
-use mathlib.Core.Path.{ap, ◌∙◌}
-use Prim.Native.Nat.{ℕ}
-use Rattle.literals.specs.Sets.{union}
 use Rattle.literals.specs.Inside.Words.{set_of}
-use Rattle.literals.proofs.Members.{minus_less}
 use Rattle.excluded.specs.Inside.Rows.{Gained}
-use Rattle.excluded.proofs.Eaches.{Going, going_none, going_more, going_all}
-use borrow.Author.Rules.{rules}
-use native.Mathlib.Omega.{arith}
+use Rattle.excluded.proofs.Eaches.{Going}
 use Rattle.excluded.proofs.joint.add_word.Given as goal
 
 abbrev pub invariant-loop-left : goal.invariant-loop-left

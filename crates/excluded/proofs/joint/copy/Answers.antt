@@ -1,8 +1,5 @@
 use mathlib.Core.Path.{sym, ◌∙◌}
-use Prim.Native.Nat.{◌-◌}
-use Rattle.excluded.specs.Inside.Joint.{Copied}
 use Rattle.excluded.proofs.Crossings.{copied_none, copied_more, copied_all}
-use borrow.Author.Rules.{rules}
 use native.Mathlib.Omega.{arith}
 use Rattle.excluded.proofs.joint.copy.Goals as goal
 

@@ -1,10 +1,6 @@
 -- `joint::copy` meets its contract: the words before i are copied.
-use mathlib.Core.Path.{sym, ◌∙◌}
 use Prim.Native.Nat.{◌-◌}
 use Rattle.excluded.specs.Inside.Joint.{Copied}
-use Rattle.excluded.proofs.Crossings.{copied_none, copied_more, copied_all}
-use borrow.Author.Rules.{rules}
-use native.Mathlib.Omega.{arith}
 use Rattle.excluded.proofs.joint.copy.Given as goal
 
 abbrev pub invariant-loop-i : goal.invariant-loop-i

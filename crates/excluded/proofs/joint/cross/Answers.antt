@@ -1,7 +1,5 @@
 use mathlib.Core.Path.{refl, ◌∙◌}
-use Prim.Native.Nat.{◌-◌}
-use Rattle.excluded.proofs.Crossings.{Crossing, crossing_none, crossing_skip, crossing_more, crossing_all}
-use borrow.Author.Rules.{rules}
+use Rattle.excluded.proofs.Crossings.{crossing_none, crossing_skip, crossing_more, crossing_all}
 use native.Mathlib.Omega.{arith}
 use Rattle.excluded.proofs.joint.cross.Goals as goal
 
@@ -24,7 +22,7 @@ loop-atom-preserved c = crossing_more _ _ _ c.loop-atom.atom _ _ _ c.row-positiv
 pub returns : goal.returns
 returns c = let all = crossing_all _ _ _ c.loop-atom.atom _ c.loop-atom-test.false c.loop-atom.invariant in
     record {
-  exclusions_len_unchanged = c.loop-atom.invariant.sized ∙ c.clear.ensures.words_len_unchanged;
-  crossed = λ long. all.0 (c.clear.ensures.words_len_unchanged ∙ long);
-  coherent = all.1;
-}
+      exclusions_len_unchanged = c.loop-atom.invariant.sized ∙ c.clear.ensures.words_len_unchanged;
+      crossed = λ long. all.0 (c.clear.ensures.words_len_unchanged ∙ long);
+      coherent = all.1;
+    }

@@ -1,9 +1,6 @@
 -- `joint::cross` meets its contract: the atoms before one are looked at.
-use mathlib.Core.Path.{refl, ◌∙◌}
 use Prim.Native.Nat.{◌-◌}
-use Rattle.excluded.proofs.Crossings.{Crossing, crossing_none, crossing_skip, crossing_more, crossing_all}
-use borrow.Author.Rules.{rules}
-use native.Mathlib.Omega.{arith}
+use Rattle.excluded.proofs.Crossings.{Crossing}
 use Rattle.excluded.proofs.joint.cross.Given as goal
 
 abbrev pub invariant-loop-atom : goal.invariant-loop-atom

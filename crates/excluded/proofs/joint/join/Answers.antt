@@ -1,7 +1,7 @@
 use Rattle.literals.specs.Inside.Words.{set_of}
 use Rattle.literals.proofs.Members.{minus_less}
 use Rattle.excluded.specs.Inside.Rows.{Joined}
-use Rattle.excluded.proofs.Eaches.{Going, going_none, going_more, going_all}
+use Rattle.excluded.proofs.Eaches.{going_none, going_more, going_all}
 use native.Mathlib.Omega.{arith}
 use Rattle.excluded.proofs.joint.join.Goals as goal
 

@@ -1,9 +1,7 @@
 -- `joint::join` meets its contract: what is left, once done, makes the whole.
 use Rattle.literals.specs.Inside.Words.{set_of}
-use Rattle.literals.proofs.Members.{minus_less}
 use Rattle.excluded.specs.Inside.Rows.{Joined}
-use Rattle.excluded.proofs.Eaches.{Going, going_none, going_more, going_all}
-use native.Mathlib.Omega.{arith}
+use Rattle.excluded.proofs.Eaches.{Going}
 use Rattle.excluded.proofs.joint.join.Given as goal
 
 abbrev pub invariant-loop-left : goal.invariant-loop-left

@@ -1,7 +1,5 @@
-use Prim.Native.Nat.{◌-◌}
 use Rattle.literals.specs.Inside.Words.{set_of}
-use Rattle.excluded.proofs.Crossings.{SpreadTo, spread_none, spread_more, spread_all}
-use borrow.Author.Rules.{rules}
+use Rattle.excluded.proofs.Crossings.{spread_none, spread_more, spread_all}
 use native.Mathlib.Omega.{arith}
 use Rattle.excluded.proofs.joint.joint.Goals as goal
 

@@ -1,9 +1,7 @@
 -- `joint::joint` meets its contract: the rules before i are looked at.
 use Prim.Native.Nat.{◌-◌}
 use Rattle.literals.specs.Inside.Words.{set_of}
-use Rattle.excluded.proofs.Crossings.{SpreadTo, spread_none, spread_more, spread_all}
-use borrow.Author.Rules.{rules}
-use native.Mathlib.Omega.{arith}
+use Rattle.excluded.proofs.Crossings.{SpreadTo}
 use Rattle.excluded.proofs.joint.joint.Given as goal
 
 abbrev pub invariant-loop-i : goal.invariant-loop-i

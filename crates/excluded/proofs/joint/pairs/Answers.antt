@@ -1,8 +1,4 @@
-use Prim.Native.Nat.{◌-◌, ◌≤◌}
-use Rattle.literals.specs.Inside.Words.{set_of}
-use Rattle.excluded.specs.Inside.Joint.{Pairs}
 use Rattle.excluded.proofs.Crossings.{pairs_none, pairs_more, pairs_all}
-use borrow.Author.Rules.{rules}
 use native.Mathlib.Omega.{arith}
 use Rattle.excluded.proofs.joint.pairs.Goals as goal
 

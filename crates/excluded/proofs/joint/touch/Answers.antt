@@ -1,10 +1,6 @@
 use mathlib.Core.Path.{refl}
-use Prim.Native.Nat.{ℕ}
-use Rattle.literals.specs.Inside.Words.{set_of}
 use Rattle.literals.proofs.Members.{minus_less}
-use Rattle.excluded.specs.Inside.Joint.{Touches}
 use Rattle.excluded.proofs.Crossings.{touches_none, touches_more}
-use borrow.Author.Rules.{rules}
 use native.Mathlib.Omega.{arith}
 use Rattle.excluded.proofs.joint.touch.Goals as goal
 

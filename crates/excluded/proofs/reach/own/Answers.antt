@@ -4,7 +4,7 @@ use Rattle.literals.specs.Sets.{insert}
 use Rattle.literals.specs.Inside.Words.{set_of}
 use Rattle.literals.proofs.Members.{minus_less}
 use Rattle.excluded.specs.Inside.Rows.{Own}
-use Rattle.excluded.proofs.Eaches.{Going, going_none, going_more, going_all}
+use Rattle.excluded.proofs.Eaches.{going_none, going_more, going_all}
 use borrow.Author.Rules.{rules}
 use native.Mathlib.Omega.{arith}
 use Rattle.excluded.proofs.reach.own.Goals as goal

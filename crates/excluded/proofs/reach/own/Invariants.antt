@@ -1,13 +1,6 @@
 -- `reach::own` meets its contract: what is left, once done, makes the whole.
-use mathlib.Core.Path.{ap, ◌∙◌}
-use Prim.Native.Nat.{ℕ, ◌+◌}
-use Rattle.literals.specs.Sets.{insert}
-use Rattle.literals.specs.Inside.Words.{set_of}
-use Rattle.literals.proofs.Members.{minus_less}
 use Rattle.excluded.specs.Inside.Rows.{Own}
-use Rattle.excluded.proofs.Eaches.{Going, going_none, going_more, going_all}
-use borrow.Author.Rules.{rules}
-use native.Mathlib.Omega.{arith}
+use Rattle.excluded.proofs.Eaches.{Going}
 use Rattle.excluded.proofs.reach.own.Given as goal
 
 abbrev pub invariant-loop-left : goal.invariant-loop-left

@@ -1,10 +1,7 @@
 -- `reach::place` meets its contract: the rows before l have their places.
-use mathlib.Core.Path.{◌≡◌, sym, ◌∙◌}
+use mathlib.Core.Path.{◌≡◌}
 use Prim.Native.Nat.{ℕ, ◌-◌, ◌*◌, ◌<◌}
-use lib.ListN.{length, get_or, length-set}
-use Rattle.excluded.proofs.Crossings.{doubles_more}
-use borrow.Author.Rules.{rules}
-use native.Mathlib.Omega.{arith}
+use lib.ListN.{length, get_or}
 use Rattle.excluded.proofs.reach.place.Given as goal
 
 abbrev pub invariant-loop-l : goal.invariant-loop-l

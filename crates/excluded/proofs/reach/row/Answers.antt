@@ -2,7 +2,6 @@
 use Prim.Native.Nat.{◌+◌, ◌*◌}
 use Rattle.excluded.proofs.RowWords.{row_read}
 use native.Mathlib.Omega.{arith}
-use borrow.Author.Rules.{rules}
 use Rattle.excluded.proofs.reach.row.Goals as goal
 
 pub returns : goal.returns

@@ -2,7 +2,7 @@ use mathlib.Core.Path.{refl}
 use Rattle.literals.specs.Inside.Words.{set_of}
 use Rattle.literals.proofs.Members.{minus_less}
 use Rattle.excluded.specs.Inside.Rows.{Whole}
-use Rattle.excluded.proofs.Eaches.{Going, going_none, going_more, going_all}
+use Rattle.excluded.proofs.Eaches.{going_none, going_more, going_all}
 use borrow.Author.Rules.{rules}
 use native.Mathlib.Omega.{arith}
 use Rattle.excluded.proofs.reach.whole.Goals as goal

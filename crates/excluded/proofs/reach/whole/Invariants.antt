@@ -1,11 +1,7 @@
 -- `reach::whole` meets its contract: what is left, once done, makes the whole.
-use mathlib.Core.Path.{refl}
 use Rattle.literals.specs.Inside.Words.{set_of}
-use Rattle.literals.proofs.Members.{minus_less}
 use Rattle.excluded.specs.Inside.Rows.{Whole}
-use Rattle.excluded.proofs.Eaches.{Going, going_none, going_more, going_all}
-use borrow.Author.Rules.{rules}
-use native.Mathlib.Omega.{arith}
+use Rattle.excluded.proofs.Eaches.{Going}
 use Rattle.excluded.proofs.reach.whole.Given as goal
 
 abbrev pub invariant-loop-left : goal.invariant-loop-left

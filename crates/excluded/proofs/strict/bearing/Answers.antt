@@ -1,10 +1,5 @@
 use mathlib.Core.Path.{sym, ◌∙◌}
-use Prim.Native.Nat.{◌-◌}
-use borrow.Author.Tests.{not-true, not-false}
-use Rattle.literals.specs.Inside.Words.{set_of}
-use Rattle.excluded.specs.Inside.Strict.{Open}
 use Rattle.excluded.proofs.Takings.{open_none, open_skip, open_more, open_all}
-use borrow.Author.Rules.{rules}
 use native.Mathlib.Omega.{arith}
 use Rattle.excluded.proofs.strict.bearing.Goals as goal
 

@@ -1,12 +1,7 @@
 -- `strict::bearing` meets its contract: the rules before i are looked at.
-use mathlib.Core.Path.{sym, ◌∙◌}
 use Prim.Native.Nat.{◌-◌}
-use borrow.Author.Tests.{not-true, not-false}
 use Rattle.literals.specs.Inside.Words.{set_of}
 use Rattle.excluded.specs.Inside.Strict.{Open}
-use Rattle.excluded.proofs.Takings.{open_none, open_skip, open_more, open_all}
-use borrow.Author.Rules.{rules}
-use native.Mathlib.Omega.{arith}
 use Rattle.excluded.proofs.strict.bearing.Given as goal
 
 abbrev pub invariant-loop-i : goal.invariant-loop-i

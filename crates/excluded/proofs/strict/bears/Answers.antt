@@ -5,7 +5,6 @@ use Prim.Native.Nat.{ℕ}
 use lib.Dec.{eqb}
 use Rattle.literals.specs.Sets.{has}
 use Rattle.literals.specs.Inside.Words.{set_of}
-use borrow.Author.Rules.{rules}
 use Rattle.excluded.proofs.strict.bears.Goals as goal
 
 pub returns : goal.returns

@@ -1,11 +1,6 @@
 use mathlib.Core.Path.{◌≡◌, refl, ◌∙◌}
-use mathlib.Core.Bool.{true}
-use Prim.Native.Nat.{◌-◌}
-use lib.ListN.{length}
-use Rattle.literals.specs.Sets.{within}
 use Rattle.literals.specs.Inside.Words.{set_of}
 use Rattle.literals.proofs.Within.{within_refl, within_trans}
-use Rattle.excluded.specs.Inside.Strict.{Taken}
 use Rattle.excluded.proofs.Takings.{taken_most, open_left, still_all}
 use borrow.Author.Rules.{rules}
 use native.Mathlib.Omega.{arith}
@@ -34,13 +29,13 @@ pub returns-then-next-n : goal.returns-then-next-n
 unfolding set_of
 returns-then-next-n c = let first : c.pass-p.result.n ≡ c.loop-derived.p.n = omega (arith, c.pass-p.ensures.rules_len_unchanged.1, c.pass-p-in-loop-derived.ensures.rules_len_unchanged.1, c.if-next-n.true) in
     let second : c.pass-p-in-loop-derived.result.n ≡ c.pass-p.result.n = omega (arith, c.pass-p.ensures.rules_len_unchanged.1, c.pass-p-in-loop-derived.ensures.rules_len_unchanged.1, c.if-next-n.true) in record {
-  rules_len_unchanged = c.pass-p-in-loop-derived.ensures.rules_len_unchanged.0 ∙ c.pass-p.ensures.rules_len_unchanged.0 ∙ c.loop-derived.invariant.0;
-  reach_value = within_trans (set_of c.args.from.reach) (set_of c.pass-p.result.reach) (set_of c.pass-p-in-loop-derived.result.reach)
-            (within_trans (set_of c.args.from.reach) (set_of c.loop-derived.p.reach) (set_of c.pass-p.result.reach) c.loop-derived.invariant.1 c.pass-p.ensures.reach_value) c.pass-p-in-loop-derived.ensures.reach_value;
-  taken_2 = c.pass-p-in-loop-derived.ensures.taken_2;
-  by_index = still_all c.args.table.now (set_of c.args.chosen) (set_of c.loop-derived.p.taken) (set_of c.loop-derived.p.reach) c.minus-left.result.hi c.minus-left.result.lo _ _ _ _ (search rules) c.minus-left.ensures
-              (c.pass-p.ensures.still first) (c.pass-p-in-loop-derived.ensures.still second);
-}
+      rules_len_unchanged = c.pass-p-in-loop-derived.ensures.rules_len_unchanged.0 ∙ c.pass-p.ensures.rules_len_unchanged.0 ∙ c.loop-derived.invariant.0;
+      reach_value = within_trans (set_of c.args.from.reach) (set_of c.pass-p.result.reach) (set_of c.pass-p-in-loop-derived.result.reach)
+          (within_trans (set_of c.args.from.reach) (set_of c.loop-derived.p.reach) (set_of c.pass-p.result.reach) c.loop-derived.invariant.1 c.pass-p.ensures.reach_value) c.pass-p-in-loop-derived.ensures.reach_value;
+      taken_2 = c.pass-p-in-loop-derived.ensures.taken_2;
+      by_index = still_all c.args.table.now (set_of c.args.chosen) (set_of c.loop-derived.p.taken) (set_of c.loop-derived.p.reach) c.minus-left.result.hi c.minus-left.result.lo _ _ _ _ (search rules) c.minus-left.ensures
+          (c.pass-p.ensures.still first) (c.pass-p-in-loop-derived.ensures.still second);
+    }
 
 pub loop-derived-smaller : goal.loop-derived-smaller
 loop-derived-smaller c = omega (arith, c.pass-p.ensures.rules_len_unchanged.1, c.pass-p-in-loop-derived.ensures.rules_len_unchanged.1, taken_most c.pass-p-in-loop-derived.ensures.taken_2)

@@ -1,15 +1,11 @@
 -- `strict::grow` meets its contract: each turn takes a rule, or is the last.
-use mathlib.Core.Path.{◌≡◌, refl, ◌∙◌}
+use mathlib.Core.Path.{◌≡◌}
 use mathlib.Core.Bool.{true}
 use Prim.Native.Nat.{◌-◌}
 use lib.ListN.{length}
 use Rattle.literals.specs.Sets.{within}
 use Rattle.literals.specs.Inside.Words.{set_of}
-use Rattle.literals.proofs.Within.{within_refl, within_trans}
 use Rattle.excluded.specs.Inside.Strict.{Taken}
-use Rattle.excluded.proofs.Takings.{taken_most, open_left, still_all}
-use borrow.Author.Rules.{rules}
-use native.Mathlib.Omega.{arith}
 use Rattle.excluded.proofs.strict.grow.Given as goal
 
 abbrev pub invariant-loop-derived : goal.invariant-loop-derived

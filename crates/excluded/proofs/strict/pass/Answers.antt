@@ -1,13 +1,10 @@
 use mathlib.Core.Path.{◌≡◌, refl, sym, ◌∙◌}
 use mathlib.Core.Bool.{true}
-use Prim.Native.Nat.{◌+◌, ◌^◌, ◌≤◌}
-use lib.ListN.{length}
-use Rattle.literals.specs.Sets.{within}
+use Prim.Native.Nat.{◌+◌, ◌^◌}
 use Rattle.literals.specs.Inside.Words.{set_of}
 use Rattle.literals.proofs.Members.{minus_less}
 use Rattle.literals.proofs.Within.{within_refl, within_trans, within_each, minus_within}
-use Rattle.excluded.specs.Inside.Strict.{Taken}
-use Rattle.excluded.proofs.Takings.{Resting, resting_none, resting_more, resting_all}
+use Rattle.excluded.proofs.Takings.{resting_none, resting_more, resting_all}
 use Rattle.program.specs.Inside.Table.{rule_count}
 use Rattle.excluded.specs.Inside.Strict.{strict_at}
 use Prim.Native.Nat.{◌<◌}

@@ -1,18 +1,12 @@
 -- `strict::pass` meets its contract: the rules of the word that are not left had their turn.
-use mathlib.Core.Path.{◌≡◌, refl, sym, ◌∙◌}
+use mathlib.Core.Path.{◌≡◌}
 use mathlib.Core.Bool.{true}
-use Prim.Native.Nat.{◌+◌, ◌^◌, ◌≤◌}
+use Prim.Native.Nat.{◌≤◌}
 use lib.ListN.{length}
 use Rattle.literals.specs.Sets.{within}
 use Rattle.literals.specs.Inside.Words.{set_of}
-use Rattle.literals.proofs.Members.{minus_less}
-use Rattle.literals.proofs.Within.{within_refl, within_trans, within_each, minus_within}
 use Rattle.excluded.specs.Inside.Strict.{Taken}
-use Rattle.excluded.proofs.Takings.{Resting, resting_none, resting_more, resting_all}
-use Rattle.program.specs.Inside.Table.{rule_count}
-use Rattle.excluded.specs.Inside.Strict.{strict_at}
-use Prim.Native.Nat.{◌<◌}
-use native.Mathlib.Omega.{arith}
+use Rattle.excluded.proofs.Takings.{Resting}
 use Rattle.excluded.proofs.strict.pass.Given as goal
 
 abbrev pub invariant-loop-left : goal.invariant-loop-left

@@ -5,7 +5,6 @@ use Rattle.literals.specs.Inside.Words.{set_of}
 use Rattle.literals.proofs.Within.{within_trans}
 use Rattle.excluded.specs.Inside.Strict.{StrictRules}
 use Rattle.excluded.proofs.Takings.{taken_none, taken_wider, wider_given, taken_all}
-use borrow.Author.Rules.{rules}
 use Rattle.excluded.proofs.strict.rules.Goals as goal
 
 pub grow-some-requires : goal.grow-some-requires

@@ -2,7 +2,6 @@
 use mathlib.Core.Path.{refl, sym, ap, ◌∙◌}
 use mathlib.Core.Bool.{false≢true}
 use Prim.Native.Nat.{ℕ}
-use borrow.Author.Tests.{not-true}
 use Rattle.literals.specs.Sets.{minus, within}
 use Rattle.literals.specs.Inside.Words.{set_of}
 use Rattle.literals.proofs.Within.{within_refl}
@@ -26,13 +25,13 @@ returns-then-not-within c = record {
   reach_value = within_refl (set_of c.args.p.reach);
   taken_2 = c.requires.taken;
   taken_value = λ z. (
-        refl,
-        refl,
-        λ w.
-            absurd
-            (false≢true
-            (sym (sym c.within.ensures ∙ c.if-not-within.true) ∙ ap (λ (b : ℕ). within b (set_of c.args.p.reach)) c.body-body.ensures ∙ w)),
-      );
+    refl,
+    refl,
+    λ w.
+        absurd
+        (false≢true
+        (sym (sym c.within.ensures ∙ c.if-not-within.true) ∙ ap (λ (b : ℕ). within b (set_of c.args.p.reach)) c.body-body.ensures ∙ w)),
+  );
 }
 
 pub store_row-requires : goal.store_row-requires
@@ -52,8 +51,8 @@ returns c = let ended =
     c.head-head.ensures (c.minus.ensures ∙ ap (λ (z : ℕ). minus z (set_of c.args.derived)) c.body-body.ensures)
     (joined_below c.minus.result.hi c.minus.result.lo (search rules) (search rules)) c.requires.taken _ c.store_row.ensures _ c.insert.ensures _ c.insert-2.ensures in
     record {
-  rules_len_unchanged = (ended.0, omega arith);
-  reach_value = ended.1;
-  taken_2 = ended.2;
-  taken_value = λ z. absurd (omega arith);
-}
+      rules_len_unchanged = (ended.0, omega arith);
+      reach_value = ended.1;
+      taken_2 = ended.2;
+      taken_value = λ z. absurd (omega arith);
+    }

@@ -1,8 +1,6 @@
-use mathlib.Core.Bool.{true, false, false≢true}
-use Prim.Native.Nat.{◌-◌, ◌≤◌}
-use Rattle.filer.proofs.Renumberings.{Placing, placing_none, placing_next, placing_far, placing_again, placing_done}
+use mathlib.Core.Bool.{false≢true}
+use Rattle.filer.proofs.Renumberings.{placing_none, placing_next, placing_far, placing_again, placing_done}
 use native.Mathlib.Omega.{arith}
-use borrow.Author.Rules.{rules}
 use Rattle.filer.proofs.numbers.invert.Goals as goal
 
 pub loop-i-init : goal.loop-i-init

@@ -1,9 +1,6 @@
 -- The first numbers are below the count and have their places; no other has one.
-use mathlib.Core.Bool.{true, false, false≢true}
 use Prim.Native.Nat.{◌-◌, ◌≤◌}
-use Rattle.filer.proofs.Renumberings.{Placing, placing_none, placing_next, placing_far, placing_again, placing_done}
-use native.Mathlib.Omega.{arith}
-use borrow.Author.Rules.{rules}
+use Rattle.filer.proofs.Renumberings.{Placing}
 use Rattle.filer.proofs.numbers.invert.Given as goal
 
 abbrev pub invariant-loop-i : goal.invariant-loop-i

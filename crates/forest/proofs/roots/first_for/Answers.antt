@@ -1,11 +1,6 @@
 use mathlib.Core.Path.{sym, ◌∙◌}
-use mathlib.Core.Logic.{◌≢◌}
-use Prim.Native.Nat.{◌-◌}
 use native.Mathlib.Omega.{arith}
-use borrow.Author.Rules.{rules}
-use lib.ListN.{get_or}
-use Rattle.lists.proofs.Scans.{Scanned, scan_start, scan_more, scan_end}
-use Rattle.argument.specs.Argument.{literal_of}
+use Rattle.lists.proofs.Scans.{scan_start, scan_more, scan_end}
 use Rattle.forest.proofs.roots.first_for.Goals as goal
 
 pub loop-j-init : goal.loop-j-init

@@ -1,11 +1,8 @@
 -- None of the arguments passed so far is for the literal.
-use mathlib.Core.Path.{sym, ◌∙◌}
 use mathlib.Core.Logic.{◌≢◌}
 use Prim.Native.Nat.{◌-◌}
-use native.Mathlib.Omega.{arith}
-use borrow.Author.Rules.{rules}
 use lib.ListN.{get_or}
-use Rattle.lists.proofs.Scans.{Scanned, scan_start, scan_more, scan_end}
+use Rattle.lists.proofs.Scans.{Scanned}
 use Rattle.argument.specs.Argument.{literal_of}
 use Rattle.forest.proofs.roots.first_for.Given as goal
 

@@ -1,9 +1,6 @@
 use mathlib.Core.Path.{◌∙◌}
-use Prim.Native.Nat.{◌-◌}
 use native.Mathlib.Omega.{arith}
-use Rattle.tree.specs.Inside.Tables.{columns}
-use Rattle.tree.proofs.RootTurn.{RootTurn, root_turn_start, root_turn_end, root_ready, root_turn_over, root_turn_mark, root_turn_index, root_turn_less, root_turn_step}
-use borrow.Author.Rules.{rules}
+use Rattle.tree.proofs.RootTurn.{root_turn_start, root_turn_end, root_ready, root_turn_over, root_turn_mark, root_turn_index, root_turn_less, root_turn_step}
 use Rattle.forest.proofs.roots.trees.Goals as goal
 
 pub loop-count-init : goal.loop-count-init

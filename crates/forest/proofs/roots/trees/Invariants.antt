@@ -1,10 +1,7 @@
 -- The trees written so far and those that are left make up the whole.
-use mathlib.Core.Path.{◌∙◌}
 use Prim.Native.Nat.{◌-◌}
-use native.Mathlib.Omega.{arith}
 use Rattle.tree.specs.Inside.Tables.{columns}
-use Rattle.tree.proofs.RootTurn.{RootTurn, root_turn_start, root_turn_end, root_ready, root_turn_over, root_turn_mark, root_turn_index, root_turn_less, root_turn_step}
-use borrow.Author.Rules.{rules}
+use Rattle.tree.proofs.RootTurn.{RootTurn}
 use Rattle.forest.proofs.roots.trees.Given as goal
 
 abbrev pub invariant-loop-count : goal.invariant-loop-count

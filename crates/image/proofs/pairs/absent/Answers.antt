@@ -1,6 +1,5 @@
 -- `absent` meets its contract.
 use borrow.Author.Tests.{le-leb, lt-leb}
-use borrow.Author.Rules.{rules}
 use Rattle.image.proofs.pairs.absent.Goals as goal
 
 pub returns-then-rules-number : goal.returns-then-rules-number

@@ -9,7 +9,6 @@ use Rattle.literals.proofs.Members.{has_power, has_not_empty}
 use Rattle.program.specs.Inside.Store.{with_beaten}
 use Rattle.program.specs.Inside.Table.{need_at, beaten_at}
 use native.Mathlib.Omega.{arith}
-use borrow.Author.Rules.{rules}
 use Rattle.image.proofs.pairs.beat.Goals as goal
 
 lowest-power : (m k r : ℕ) → m ≡ 2 ^ k → Lowest m r → r ≡ k

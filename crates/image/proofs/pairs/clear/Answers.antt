@@ -1,12 +1,11 @@
 use mathlib.Core.Path.{◌≡◌, refl, ap, ◌∙◌}
 use mathlib.Core.List.{List}
-use Prim.Native.Nat.{ℕ, ◌+◌, ◌-◌, ◌<◌, ◌≤◌}
+use Prim.Native.Nat.{ℕ, ◌+◌, ◌<◌}
 use native.Mathlib.Decide.{ℕ_discrete}
 use lib.ListN.{length, get_or, length-set}
 use lib.Seq.{get_or-set_same, get_or-set_other}
 use Rattle.program.specs.Inside.Table.{beaten_at}
 use Rattle.program.specs.Inside.Store.{with_beaten}
-use borrow.Author.Rules.{rules}
 use native.Mathlib.Omega.{arith}
 use Rattle.image.proofs.pairs.clear.Goals as goal
 
@@ -28,11 +27,11 @@ store_beaten-requires c = omega arith
 
 pub loop-b-preserved : goal.loop-b-preserved
 loop-b-preserved c = let l = c.loop-b in (
-      ap (λ (q : List ℕ). length q) c.store_beaten.ensures ∙ length-set l.table _ _ ∙ l.invariant.0,
-      λ z k h. next l.table _ l.b (l.invariant.0 ∙ z) (omega arith) c.store_beaten.ensures (l.invariant.1 z) k h,
-      λ w h. kept l.table _ l.b w c.store_beaten.ensures h ∙ l.invariant.2 w h,
-      omega arith,
-    )
+  ap (λ (q : List ℕ). length q) c.store_beaten.ensures ∙ length-set l.table _ _ ∙ l.invariant.0,
+  λ z k h. next l.table _ l.b (l.invariant.0 ∙ z) (omega arith) c.store_beaten.ensures (l.invariant.1 z) k h,
+  λ w h. kept l.table _ l.b w c.store_beaten.ensures h ∙ l.invariant.2 w h,
+  omega arith,
+)
 
 pub returns : goal.returns
 returns c = let l = c.loop-b in (l.invariant.0, λ z k h. l.invariant.1 z k (omega arith), l.invariant.2)

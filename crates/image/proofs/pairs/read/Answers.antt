@@ -1,13 +1,11 @@
 use mathlib.Core.Path.{◌≡◌, sym, ◌∙◌}
 use mathlib.Core.Bool.{true, false}
-use Prim.Native.Nat.{ℕ, ◌-◌}
-use lib.ListN.{length}
+use Prim.Native.Nat.{ℕ}
 use Rattle.layout.specs.declared.Verdict.TheVariants.{Accepted, Refused}
 use Rattle.layout.proofs.Cursors.{pair_ended}
 use Rattle.image.proofs.EachPair.{pairs_short, pairs_sized, after_eleven}
-use Rattle.image.proofs.Beaten.{Pairing, base_of, pairing_start, taken, tested, pairing_refused, need_first, both_there, pairing_next, pairing_done}
+use Rattle.image.proofs.Beaten.{base_of, pairing_start, taken, tested, pairing_refused, need_first, both_there, pairing_next, pairing_done}
 use native.Mathlib.Omega.{arith}
-use borrow.Author.Rules.{rules}
 use Rattle.image.proofs.pairs.read.Goals as goal
 
 never : (n k : ℕ) → Refused n k ≡ Accepted → ⊥

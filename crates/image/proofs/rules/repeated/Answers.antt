@@ -1,8 +1,7 @@
 use Prim.Native.Nat.{◌-◌}
 use Rattle.literals.specs.Inside.Words.{set_of}
-use Rattle.image.proofs.Repeated.{Missed, missed_start, missed_end, missed_found, missed_fewer, missed_next}
+use Rattle.image.proofs.Repeated.{missed_start, missed_end, missed_found, missed_fewer, missed_next}
 use native.Mathlib.Omega.{arith}
-use borrow.Author.Rules.{rules}
 use Rattle.image.proofs.rules.repeated.Goals as goal
 
 pub bounds-links-head : goal.bounds-links-head

@@ -1,9 +1,6 @@
 -- From link to link no row is the same so far.
-use Prim.Native.Nat.{◌-◌}
 use Rattle.literals.specs.Inside.Words.{set_of}
-use Rattle.image.proofs.Repeated.{Missed, missed_start, missed_end, missed_found, missed_fewer, missed_next}
-use native.Mathlib.Omega.{arith}
-use borrow.Author.Rules.{rules}
+use Rattle.image.proofs.Repeated.{Missed}
 use Rattle.image.proofs.rules.repeated.Given as goal
 
 abbrev pub invariant-loop-after : goal.invariant-loop-after

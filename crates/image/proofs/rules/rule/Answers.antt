@@ -8,7 +8,6 @@ use Rattle.layout.proofs.Parts.{located_order, located_part}
 use Rattle.image.proofs.EachRule.{rule_by}
 use Rattle.image.proofs.Walk.{refused_of, found, next_read, step_refused, step_next}
 use native.Mathlib.Omega.{arith}
-use borrow.Author.Rules.{rules}
 use Rattle.image.proofs.rules.rule.Goals as goal
 
 pub slice_bounds-read-count : goal.slice_bounds-read-count

@@ -4,9 +4,7 @@ use Prim.Native.Nat.{ℕ}
 use lib.Dec.{eqb}
 use Rattle.literals.specs.Inside.Words.{set_of}
 use Rattle.program.specs.Inside.Table.{need_at}
-use borrow.Author.Tests.{not-true, not-false}
 use Rattle.image.proofs.Repeated.{other_body, same_kind, kind_on, kind_off}
-use borrow.Author.Rules.{rules}
 use Rattle.image.proofs.rules.same.Goals as goal
 
 pub returns-then-not-same : goal.returns-then-not-same

@@ -15,7 +15,6 @@ use Rattle.program.proofs.Stores.{row_length}
 use Rattle.program.proofs.Fillings.{stored_strict, stored_defeasible}
 use Rattle.image.specs.Inside.Passes.{RuleIs}
 use native.Mathlib.Omega.{arith}
-use borrow.Author.Rules.{rules}
 use Rattle.image.proofs.rules.store.Goals as goal
 
 -- what the contract says of the table, by the kind of the rule

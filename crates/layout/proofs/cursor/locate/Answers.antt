@@ -3,7 +3,6 @@ use native.Mathlib.Omega.{arith}
 use mathlib.Core.Path.{◌≡◌, ap, ◌∙◌}
 use Prim.Native.Nat.{◌+◌, ◌*◌}
 use Rattle.layout.specs.Layout.{number_at, size_of}
-use borrow.Author.Rules.{rules}
 use Rattle.layout.proofs.cursor.locate.Goals as goal
 
 pub returns : goal.returns

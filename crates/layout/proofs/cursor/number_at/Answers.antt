@@ -1,6 +1,5 @@
 -- `number_at` meets its contract: the two bytes, joined.
 use Rattle.layout.proofs.Cursors.{number_joined}
-use borrow.Author.Rules.{rules}
 use Rattle.layout.proofs.cursor.number_at.Goals as goal
 
 pub returns : goal.returns

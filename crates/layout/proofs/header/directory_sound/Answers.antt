@@ -1,10 +1,7 @@
 use mathlib.Core.Path.{sym, ap, ◌∙◌}
 use mathlib.Core.Bool.{not}
-use Prim.Native.Nat.{◌+◌, ◌-◌}
-use Rattle.layout.specs.Inside.Steps.{Along}
 use Rattle.layout.proofs.Directory.{along_broken, along_next, along_end}
 use native.Mathlib.Omega.{arith}
-use borrow.Author.Rules.{rules}
 use Rattle.layout.proofs.header.directory_sound.Goals as goal
 
 pub loop-i-init : goal.loop-i-init

@@ -1,7 +1,6 @@
 -- One test after the other.
 use mathlib.Core.Path.{◌∙◌}
 use borrow.Author.Tests.{lt-ltb, le-ltb, eq-eqb, ne_eqb}
-use borrow.Author.Rules.{rules}
 use Rattle.layout.proofs.header.within_limits.Goals as goal
 
 pub returns-then-atoms-gt64 : goal.returns-then-atoms-gt64

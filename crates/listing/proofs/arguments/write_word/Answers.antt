@@ -6,7 +6,7 @@ use Rattle.literals.specs.Sets.{minus}
 use Rattle.literals.proofs.Members.{minus_less}
 use Rattle.listing.specs.Inside.Listing.{members_from}
 use Rattle.listing.proofs.Picks.{members_none, members_lowest}
-use Rattle.lists.proofs.Stores.{Writing, writing_all, writing_one, writing_none}
+use Rattle.lists.proofs.Stores.{writing_all, writing_one, writing_none}
 use native.Mathlib.Omega.{arith}
 use Rattle.listing.proofs.arguments.write_word.Goals as goal
 use Rattle.listing.proofs.arguments.write_word.Goals.{After-lowest-bit}

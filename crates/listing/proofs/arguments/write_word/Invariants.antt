@@ -1,14 +1,6 @@
 -- `arguments::write_word` meets its contract: the members that are left are left to be written.
-use mathlib.Core.Path.{◌≡◌, refl, ap, ◌∙◌}
-use mathlib.Core.List.{◌∷◌}
-use Prim.Native.Nat.{ℕ, ◌+◌, ◌^◌, ◌<◌}
-use lib.ListN.{length}
-use Rattle.literals.specs.Sets.{minus}
-use Rattle.literals.proofs.Members.{minus_less}
 use Rattle.listing.specs.Inside.Listing.{members_from}
-use Rattle.listing.proofs.Picks.{members_none, members_lowest}
-use Rattle.lists.proofs.Stores.{Writing, writing_all, writing_one, writing_none}
-use native.Mathlib.Omega.{arith}
+use Rattle.lists.proofs.Stores.{Writing}
 use Rattle.listing.proofs.arguments.write_word.Given as goal
 
 abbrev pub invariant-loop-left : goal.invariant-loop-left

@@ -1,6 +1,5 @@
 -- `LiteralSet::has` meets its contract: the literal is looked up in the word that has its digit.
 use mathlib.Core.Path.{◌∙◌}
-use borrow.Author.Rules.{rules}
 use Rattle.literals.proofs.LiteralSet.has.Goals as goal
 
 pub returns : goal.returns

@@ -1,7 +1,6 @@
 -- `masks::clear` meets its contract.
 use mathlib.Core.Path.{ap}
 use lib.Bits.{and_le_l}
-use borrow.Author.Rules.{rules}
 use Rattle.literals.specs.Sets.{minus}
 use Rattle.literals.proofs.Words.{shifted_one}
 use Rattle.literals.proofs.masks.clear.Goals as goal

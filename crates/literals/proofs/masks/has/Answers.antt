@@ -1,6 +1,5 @@
 -- `masks::has` meets its contract.
 use mathlib.Core.Path.{refl}
-use borrow.Author.Rules.{rules}
 use Rattle.literals.specs.Sets.{bit, has}
 use Rattle.literals.proofs.masks.has.Goals as goal
 

@@ -2,7 +2,6 @@
 use mathlib.Core.Path.{sym, ◌∙◌}
 use Rattle.literals.proofs.Bits.{and_pred}
 use Rattle.literals.proofs.Members.{has_bit, lacks_bit, minus_power}
-use borrow.Author.Rules.{rules}
 use Rattle.literals.proofs.masks.rest.Goals as goal
 
 pub returns : goal.returns

@@ -1,5 +1,4 @@
 -- `masks::with_bit` meets its contract.
-use borrow.Author.Rules.{rules}
 use Rattle.literals.proofs.Words.{shifted_insert}
 use Rattle.literals.proofs.masks.with_bit.Goals as goal
 

@@ -1,12 +1,6 @@
-use mathlib.Core.Path.{◌≡◌, refl, sym, ◌∙◌}
-use Prim.Native.Nat.{◌-◌, ◌≤◌}
+use mathlib.Core.Path.{refl, sym, ◌∙◌}
 use native.Mathlib.Omega.{arith}
-use lib.ListN.{length}
-use Rattle.program.specs.Program.{Program, defeasibles}
-use Rattle.program.specs.Limits.{Limits}
-use Rattle.program.specs.Inside.Filling.{ListedIn}
-use Rattle.program.proofs.Chaining.{ChainedTo, chained_start, chained_turn, chained_end, chained_none}
-use borrow.Author.Rules.{rules}
+use Rattle.program.proofs.Chaining.{chained_start, chained_turn, chained_end, chained_none}
 use Rattle.program.proofs.chain.all.Goals as goal
 
 pub returns-then-pairs-eq0 : goal.returns-then-pairs-eq0
@@ -17,10 +11,10 @@ loop-k-init c = (refl, λ p limits z e b. chained_start limits b, omega arith)
 
 pub loop-k-preserved : goal.loop-k-preserved
 loop-k-preserved c = let l = c.loop-k in (
-      c.hand_on.ensures.0 ∙ l.invariant.0,
-      λ p limits z e b. chained_turn limits e (omega arith) (l.invariant.1 p limits z e b) (c.hand_on.ensures.1 (l.invariant.0 ∙ z)),
-      omega arith,
-    )
+  c.hand_on.ensures.0 ∙ l.invariant.0,
+  λ p limits z e b. chained_turn limits e (omega arith) (l.invariant.1 p limits z e b) (c.hand_on.ensures.1 (l.invariant.0 ∙ z)),
+  omega arith,
+)
 
 pub returns : goal.returns
 returns c = let l = c.loop-k in

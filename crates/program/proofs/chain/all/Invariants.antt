@@ -1,13 +1,11 @@
 -- `chain::all` meets its contract: bit by bit, chains through the bits before k are closed.
-use mathlib.Core.Path.{◌≡◌, refl, sym, ◌∙◌}
+use mathlib.Core.Path.{◌≡◌}
 use Prim.Native.Nat.{◌-◌, ◌≤◌}
-use native.Mathlib.Omega.{arith}
 use lib.ListN.{length}
 use Rattle.program.specs.Program.{Program, defeasibles}
 use Rattle.program.specs.Limits.{Limits}
 use Rattle.program.specs.Inside.Filling.{ListedIn}
-use Rattle.program.proofs.Chaining.{ChainedTo, chained_start, chained_turn, chained_end, chained_none}
-use borrow.Author.Rules.{rules}
+use Rattle.program.proofs.Chaining.{ChainedTo}
 use Rattle.program.proofs.chain.all.Given as goal
 
 abbrev pub invariant-loop-k : goal.invariant-loop-k

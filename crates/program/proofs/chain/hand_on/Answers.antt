@@ -1,12 +1,9 @@
-use mathlib.Core.Path.{◌≡◌, refl, sym, ap, ◌∙◌}
+use mathlib.Core.Path.{refl, sym, ap, ◌∙◌}
 use mathlib.Core.List.{List}
-use Prim.Native.Nat.{ℕ, ◌-◌, ◌≤◌}
+use Prim.Native.Nat.{ℕ}
 use native.Mathlib.Omega.{arith}
 use lib.ListN.{length, length-set}
-use borrow.Author.Tests.{not-true, not-false}
-use Rattle.program.specs.Inside.Filling.{HandedOn}
 use Rattle.program.proofs.Chaining.{handed_none, handed_nothing, handed_skip, handed_more, handed_all}
-use borrow.Author.Rules.{rules}
 use Rattle.program.proofs.chain.hand_on.Goals as goal
 
 pub returns-then-handed-eq0 : goal.returns-then-handed-eq0
@@ -17,19 +14,19 @@ loop-i-init c = (refl, omega arith, λ z. handed_none _ _)
 
 pub loop-i-preserved-then-not-has : goal.loop-i-preserved-then-not-has
 loop-i-preserved-then-not-has c = let l = c.loop-i in (
-      l.invariant.0,
-      omega arith,
-      λ z. handed_skip (omega arith) (l.invariant.2 z) _ c.beaten-own.ensures (sym c.has.ensures ∙ c.if-not-has.true),
-    )
+  l.invariant.0,
+  omega arith,
+  λ z. handed_skip (omega arith) (l.invariant.2 z) _ c.beaten-own.ensures (sym c.has.ensures ∙ c.if-not-has.true),
+)
 
 pub loop-i-preserved : goal.loop-i-preserved
 loop-i-preserved c = let l = c.loop-i in (
-      ap (λ (q : List ℕ). length q) c.store_beaten.ensures ∙ length-set l.table _ _ ∙ l.invariant.0,
-      omega arith,
-      λ z.
-          handed_more (omega arith) (l.invariant.2 z) _ _ (l.invariant.0 ∙ z) c.beaten-own.ensures
-          (sym c.has.ensures ∙ c.if-not-has.false) c.beaten-handed.ensures c.store_beaten.ensures,
-    )
+  ap (λ (q : List ℕ). length q) c.store_beaten.ensures ∙ length-set l.table _ _ ∙ l.invariant.0,
+  omega arith,
+  λ z.
+      handed_more (omega arith) (l.invariant.2 z) _ _ (l.invariant.0 ∙ z) c.beaten-own.ensures
+      (sym c.has.ensures ∙ c.if-not-has.false) c.beaten-handed.ensures c.store_beaten.ensures,
+)
 
 pub returns : goal.returns
 returns c = let l = c.loop-i in let i = l.invariant.1 in (l.invariant.0, λ z. handed_all (omega arith) (l.invariant.2 z))

@@ -1,13 +1,8 @@
 -- `chain::hand_on` meets its contract: bit k has handed on to the rows before i.
-use mathlib.Core.Path.{◌≡◌, refl, sym, ap, ◌∙◌}
-use mathlib.Core.List.{List}
-use Prim.Native.Nat.{ℕ, ◌-◌, ◌≤◌}
-use native.Mathlib.Omega.{arith}
-use lib.ListN.{length, length-set}
-use borrow.Author.Tests.{not-true, not-false}
+use mathlib.Core.Path.{◌≡◌}
+use Prim.Native.Nat.{◌-◌, ◌≤◌}
+use lib.ListN.{length}
 use Rattle.program.specs.Inside.Filling.{HandedOn}
-use Rattle.program.proofs.Chaining.{handed_none, handed_nothing, handed_skip, handed_more, handed_all}
-use borrow.Author.Rules.{rules}
 use Rattle.program.proofs.chain.hand_on.Given as goal
 
 abbrev pub invariant-loop-i : goal.invariant-loop-i

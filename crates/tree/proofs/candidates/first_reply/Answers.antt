@@ -1,11 +1,7 @@
-use mathlib.Core.Path.{◌≡◌, sym, ◌∙◌}
-use Prim.Native.Nat.{◌-◌}
+use mathlib.Core.Path.{sym, ◌∙◌}
 use native.Mathlib.Omega.{arith}
 use borrow.Author.Rules.{rules}
-use lib.ListN.{get_or}
-use Rattle.lists.proofs.Scans.{Scanned, scan_start, scan_more, scan_end}
-use Rattle.tree.specs.Reply.{reply_kind}
-use Rattle.tree.specs.Inside.Steps.{line_of, Prepared, tests_in}
+use Rattle.lists.proofs.Scans.{scan_start, scan_more, scan_end}
 use Rattle.tree.proofs.candidates.first_reply.Goals as goal
 
 pub loop-j-init : goal.loop-j-init
@@ -21,10 +17,10 @@ pub returns-then-kind-ne0 : goal.returns-then-kind-ne0
 returns-then-kind-ne0 c = let s = c.loop-j.invariant in record {
   start_le_index = (s.low, s.high);
   first_reply = λ w. record {
-        none_before = λ i a b. s.missed i a b w;
-        kind_is = λ h. c.reply_kind-kind.ensures w;
-        is_reply = λ h. c.if-kind-ne0.true;
-      };
+    none_before = λ i a b. s.missed i a b w;
+    kind_is = λ h. c.reply_kind-kind.ensures w;
+    is_reply = λ h. c.if-kind-ne0.true;
+  };
 }
 
 pub loop-j-preserved : goal.loop-j-preserved
@@ -35,8 +31,8 @@ pub returns : goal.returns
 returns c = let s = scan_end c.loop-j.invariant c.loop-j-test.false in record {
   start_le_index = (s.low, s.high);
   first_reply = λ w. record {
-        none_before = λ i a b. s.missed i a b w;
-        kind_is = λ h. absurd (omega arith);
-        is_reply = λ h. absurd (omega arith);
-      };
+    none_before = λ i a b. s.missed i a b w;
+    kind_is = λ h. absurd (omega arith);
+    is_reply = λ h. absurd (omega arith);
+  };
 }

@@ -1,10 +1,8 @@
 -- The candidates passed so far are no replies.
-use mathlib.Core.Path.{◌≡◌, sym, ◌∙◌}
+use mathlib.Core.Path.{◌≡◌}
 use Prim.Native.Nat.{◌-◌}
-use native.Mathlib.Omega.{arith}
-use borrow.Author.Rules.{rules}
 use lib.ListN.{get_or}
-use Rattle.lists.proofs.Scans.{Scanned, scan_start, scan_more, scan_end}
+use Rattle.lists.proofs.Scans.{Scanned}
 use Rattle.tree.specs.Reply.{reply_kind}
 use Rattle.tree.specs.Inside.Steps.{line_of, Prepared, tests_in}
 use Rattle.tree.proofs.candidates.first_reply.Given as goal

@@ -1,9 +1,7 @@
 -- The tests in turn: of attack, of the candidate's side, of the line, of defeat, of the rule on blocking defeaters.
 use mathlib.Core.Path.{subst}
 use Rattle.defeat.specs.Inside.Steps.{AttacksBy}
-use borrow.Author.Tests.{not-true}
 use Rattle.tree.proofs.Asking.{asking_numbers, asking_x, asking_y, asking_apart, asking_discordant, asking_used, asking_free}
-use borrow.Author.Rules.{rules}
 use Rattle.tree.proofs.candidates.reply_kind.Goals as goal
 
 pub attacks-requires : goal.attacks-requires
@@ -28,9 +26,9 @@ pub kind-kind-requires : goal.kind-kind-requires
 kind-kind-requires c = let x = asking_x c.requires.asked c.args.j c.requires.j_lt_count in
     let y = asking_y c.requires.asked c.args.j c.requires.j_lt_count in
     record {
-  numbers = asking_numbers c.requires.asked c.args.j c.requires.j_lt_count;
-  x_bound = (x, y);
-}
+      numbers = asking_numbers c.requires.asked c.args.j c.requires.j_lt_count;
+      x_bound = (x, y);
+    }
 
 pub returns : goal.returns
 returns c = λ w. asking_free c.requires.asked c.args.j c.requires.j_lt_count w c.mask_of-mask.result c.mask_of-mask.ensures c.contradictory.result c.contradictory.ensures c.used.result

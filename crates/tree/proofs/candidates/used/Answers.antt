@@ -1,14 +1,12 @@
 use mathlib.Core.Path.{◌≡◌, refl, sym, ap, ◌∙◌}
 use mathlib.Core.Bool.{Bool, true, false, ◌||◌}
 use mathlib.Core.List.{List}
-use Prim.Native.Nat.{ℕ, ◌-◌, ◌≤◌, ◌<◌}
+use Prim.Native.Nat.{ℕ, ◌-◌, ◌<◌}
 use native.Mathlib.Omega.{arith}
-use borrow.Author.Rules.{rules}
 use lib.ListN.{get_or}
 use Rattle.lists.specs.Lists.{any}
 use Rattle.literals.specs.Sets.{within}
 use Rattle.argument.specs.Argument.{mask_of}
-use Rattle.tree.specs.Inside.Steps.{line_of}
 use Rattle.tree.proofs.Steps.{line_last}
 use Rattle.tree.proofs.candidates.used.Invariants.{usedTo}
 use Rattle.tree.proofs.candidates.used.Goals as goal

@@ -1,16 +1,12 @@
 -- What is left of the line decides: nothing passed so far has the mask within its own.
-use mathlib.Core.Path.{◌≡◌, refl, sym, ap, ◌∙◌}
-use mathlib.Core.Bool.{Bool, true, false, ◌||◌}
+use mathlib.Core.Path.{◌≡◌}
+use mathlib.Core.Bool.{Bool}
 use mathlib.Core.List.{List}
-use Prim.Native.Nat.{ℕ, ◌-◌, ◌≤◌, ◌<◌}
-use native.Mathlib.Omega.{arith}
-use borrow.Author.Rules.{rules}
-use lib.ListN.{get_or}
+use Prim.Native.Nat.{ℕ, ◌≤◌}
 use Rattle.lists.specs.Lists.{any}
 use Rattle.literals.specs.Sets.{within}
 use Rattle.argument.specs.Argument.{mask_of}
 use Rattle.tree.specs.Inside.Steps.{line_of}
-use Rattle.tree.proofs.Steps.{line_last}
 use Rattle.tree.proofs.candidates.used.Given as goal
 
 -- an argument with the mask is a sub-argument of one of the first i

@@ -1,9 +1,7 @@
 -- `columns::query` meets its contract: cause by cause, then the answer in the program.
 use mathlib.Core.Path.{sym, ◌∙◌}
-use native.Mathlib.Omega.{arith}
 use native.Mathlib.Nat.{le_trans}
 use Rattle.warrant.proofs.Queries.{held_in, query_image, query_20, query_21, query_22, query_settled}
-use borrow.Author.Rules.{rules}
 use Rattle.warrant.proofs.columns.query.Goals as goal
 
 pub returns-in-Refused : goal.returns-in-Refused

@@ -1,7 +1,6 @@
 -- `Cursor::byte` meets its contract: one law for each answer.
 use Rattle.layout.proofs.Cursors.{byte_past, byte_read}
 use native.Mathlib.Omega.{arith}
-use borrow.Author.Rules.{rules}
 use Rattle.layout.proofs.cursor.Cursor.byte.Goals as goal
 
 pub returns-then-part-at : goal.returns-then-part-at

@@ -2,7 +2,6 @@
 use mathlib.Core.Path.{sym, ◌∙◌}
 use Rattle.layout.proofs.Cursors.{numbers_ended, numbers_is, follow_broken, follow_read}
 use native.Mathlib.Omega.{arith}
-use borrow.Author.Rules.{rules}
 use Rattle.layout.proofs.cursor.Cursor.follow.Goals as goal
 
 pub returns-in_default : goal.returns-in_default

@@ -1,7 +1,6 @@
 -- `Cursor::number` meets its contract: one law for each answer.
 use native.Mathlib.Omega.{arith}
 use Rattle.layout.proofs.Cursors.{number_past, number_read}
-use borrow.Author.Rules.{rules}
 use Rattle.layout.proofs.cursor.Cursor.number.Goals as goal
 
 pub returns-then-image-lt2 : goal.returns-then-image-lt2

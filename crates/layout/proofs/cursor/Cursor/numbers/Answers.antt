@@ -2,7 +2,6 @@
 use mathlib.Core.Path.{sym, ◌∙◌}
 use native.Mathlib.Omega.{arith}
 use Rattle.layout.proofs.Cursors.{number_ended, number_is, numbers_past, numbers_read}
-use borrow.Author.Rules.{rules}
 use Rattle.layout.proofs.cursor.Cursor.numbers.Goals as goal
 
 pub returns-in_default : goal.returns-in_default

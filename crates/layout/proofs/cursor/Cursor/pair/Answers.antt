@@ -2,7 +2,6 @@
 use mathlib.Core.Path.{sym, ◌∙◌}
 use Rattle.layout.proofs.Cursors.{byte_ended, byte_is, pair_past, pair_read}
 use native.Mathlib.Omega.{arith}
-use borrow.Author.Rules.{rules}
 use Rattle.layout.proofs.cursor.Cursor.pair.Goals as goal
 
 pub returns-in_default : goal.returns-in_default
