@@ -11,7 +11,7 @@ ghost use Rattle.literals.specs.Inside.Words.{joined, set_of};
 pub mod masks;
 
 // Bit l of lo is literal l, bit l of hi is literal 64 + l.
-#[derive(Drop)]
+#[derive(Clone, Copy)]
 pub struct LiteralSet {
     pub lo: u64,
     pub hi: u64,
