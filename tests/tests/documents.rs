@@ -105,16 +105,16 @@ fn a_missing_edit_is_found() {
 fn a_wrong_name_is_found() {
     assert_found(&[
         (
-            "`reply-child`, `replyKind ..` and `Answers`; `omega` and `NAME`",
+            "`reply_child`, `reply_kind ..` and `Answers`; `omega` and `NAME`",
             &[],
         ),
         (
-            "`reply-chid`",
-            &["a.md:1: nothing in crates/ defines `reply-chid`"],
+            "`reply_chid`",
+            &["a.md:1: nothing in crates/ defines `reply_chid`"],
         ),
         (
-            "`replyKynd x`",
-            &["a.md:1: nothing in crates/ defines `replyKynd`"],
+            "`reply_kynd x`",
+            &["a.md:1: nothing in crates/ defines `reply_kynd`"],
         ),
         (
             "one\n\n`Answered`",
@@ -143,29 +143,29 @@ fn a_wrong_name_is_found() {
 #[test]
 fn a_name_in_another_file_is_found() {
     let sound =
-        "`reply-child` tree/proofs/Reply; `replies-grow`,\n`children-all` tree/proofs/Published";
+        "`reply_child` tree/proofs/Reply; `replies_grow`,\n`children_all` tree/proofs/Published";
     assert_found(&[
         (sound, &[]),
         (
-            "`reply-child`, `replies-unroll` (without fuel) (`crates/tree/proofs/`)",
+            "`reply_child`, `replies_unroll` (without fuel) (`crates/tree/proofs/`)",
             &[],
         ),
-        ("(`tree/specs/Reply.antt`: `joins`, `replyKind`)", &[]),
+        ("(`tree/specs/Reply.antt`: `joins`, `reply_kind`)", &[]),
         (
-            "`demand-3 : Demand-3` (`crates/warrant/proofs/Claims.antt`)",
+            "`demand_3 : Demand_3` (`crates/warrant/proofs/Claims.antt`)",
             &[],
         ),
         (
-            "`reply-child` tree/proofs/Marks",
-            &["a.md:1: `reply-child` is not defined in tree/proofs/Marks"],
+            "`reply_child` tree/proofs/Marks",
+            &["a.md:1: `reply_child` is not defined in tree/proofs/Marks"],
         ),
         (
-            "`joins-renders`, `kind-proper` (all) and `reply-child`\nin tree/proofs/Reply",
-            &["a.md:2: `kind-proper` is not defined in tree/proofs/Reply"],
+            "`joins_renders`, `kind_proper` (all) and `reply_child`\nin tree/proofs/Reply",
+            &["a.md:2: `kind_proper` is not defined in tree/proofs/Reply"],
         ),
         (
-            "(`layout/specs/Causes.antt`: `badKind`, `reply-child`)",
-            &["a.md:1: `reply-child` is not defined in layout/specs/Causes.antt"],
+            "(`layout/specs/Causes.antt`: `bad_kind`, `reply_child`)",
+            &["a.md:1: `reply_child` is not defined in layout/specs/Causes.antt"],
         ),
         (
             "`warrant::query(image)` (`crates/calls/src/lib.rt`)",
@@ -177,11 +177,18 @@ fn a_name_in_another_file_is_found() {
 #[test]
 fn a_command_that_makes_nothing_is_found() {
     assert_found(&[
-        ("`rt dev NAME`\n\n    rt check advise && target/bin/advise < tests/vectors/F.img", &[]),
+        ("`rt ci NAME..`\n\n    tools/build && target/bin/advise < tests/vectors/F.img", &[]),
+        ("`(cd crates/part && rt check --only PATH)`, `rt must-fail part`, `rt all check`, `rt ci`", &[]),
         ("text\n\n    cc examples/host.c target/staticlib/libfoqtirel.a -o target/host\n    target/host", &[]),
         ("text\n\n    foqtirel file tests/vectors/T.img --numbers target/T.numbers\n    cat target/T.numbers", &[]),
-        ("`rt staticlib probe`", &["a.md:1: there is no crate probe"]),
-        ("text\n\n    rt staticlib probe", &["a.md:3: there is no crate probe"]),
+        ("`rt ci probe`", &["a.md:1: there is no crate probe"]),
+        ("`rt must-fail part probe..`", &["a.md:1: there is no crate probe"]),
+        ("text\n\n    (cd tests && rt ci probe)", &["a.md:3: there is no crate probe"]),
+        ("text\n\n    rt must-fail probe", &["a.md:3: there is no crate probe"]),
+        ("`rt staticlib part`", &["a.md:1: there is no command rt staticlib"]),
+        ("text\n\n    rt check part && ls", &["a.md:3: rt check takes no part"]),
+        ("text\n\n    tools/biuld", &["a.md:3: there is no tools/biuld"]),
+        ("`(cd crates/probe && rt check)`", &["a.md:1: there is no crates/probe"]),
         ("`target/staticlib/libprobe.a`", &["a.md:1: there is no target/staticlib/libprobe.a"]),
         ("`target/bin/warrant`", &["a.md:1: there is no target/bin/warrant"]),
         ("`target/host`", &["a.md:1: there is no target/host"]),
@@ -198,7 +205,7 @@ fn no_name_of_the_definitions_goes_unseen() {
         let parts: Vec<&str> = row.split('`').collect();
         for changed in (1..parts.len()).step_by(2) {
             let mut parts = parts.clone();
-            let other = format!("{}s-other", parts[changed]);
+            let other = format!("{}s_other", parts[changed]);
             parts[changed] = &other;
             let row = parts.join("`");
             let found = faults(&row, &sources);

@@ -32,8 +32,14 @@ const WORDS: [&str; 21] = [
     "valgrind",
 ];
 
-/// Commands of `rt` that a crate's name follows.
-const ON_A_CRATE: [&str; 5] = ["check", "dev", "staticlib", "must-fail", "mir"];
+/// Commands of `rt` that names of crates follow.
+const ON_CRATES: [&str; 2] = ["ci", "must-fail"];
+
+/// Those that work on the crate of the folder, or on all, and take no name here.
+const IN_A_FOLDER: [&str; 12] = [
+    "all", "check", "expand", "fmt", "lib", "plant", "run", "test", "tidy", "try", "verdict",
+    "version",
+];
 
 /// What a document names and the tree doesn't have, each with its line, and how much it names.
 #[derive(Default)]
@@ -93,15 +99,34 @@ fn missing_path(path: &str, text: &str, sources: &Sources) -> Vec<String> {
     }
 }
 
+/// The commands of `rt` that there are none of, and the crates that they name in vain.
 fn missing_crate(command: &str, sources: &Sources) -> Vec<String> {
-    let words: Vec<&str> = command.split_whitespace().collect();
-    words
-        .windows(3)
-        .filter(|three| three[0] == "rt" && ON_A_CRATE.contains(&three[1]))
-        .map(|three| three[2])
-        .filter(|name| !is_placeholder(name) && !sources.has_crate(name))
-        .map(|name| format!("there is no crate {name}"))
-        .collect()
+    let mut told = Vec::new();
+    // What another command follows, and what closes a list of words.
+    let parted = command.replace(['(', ')', ';'], " ; ");
+    let words: Vec<&str> = parted.split_whitespace().collect();
+    for (position, word) in words.iter().enumerate() {
+        let Some(name) = words.get(position + 1).filter(|_| *word == "rt") else {
+            continue;
+        };
+        let rest = words[position + 2..].iter();
+        let named = rest
+            .map(|word| word.trim_end_matches(['.', ',']))
+            .take_while(|word| word.starts_with(char::is_alphabetic));
+        if ON_CRATES.contains(name) {
+            let missing = named.filter(|name| !is_placeholder(name) && !sources.has_crate(name));
+            told.extend(missing.map(|name| format!("there is no crate {name}")));
+        } else if !IN_A_FOLDER.contains(name) {
+            told.push(format!("there is no command rt {name}"));
+        } else if *name != "all" {
+            told.extend(
+                named
+                    .take(1)
+                    .map(|word| format!("rt {name} takes no {word}")),
+            );
+        }
+    }
+    told
 }
 
 /// The names in a code span that nothing defines.
@@ -118,8 +143,12 @@ fn missing_names(code: &str, sources: &Sources) -> Vec<String> {
     let alone = is_name(code);
     for name in names_in(code) {
         let known = sources.defines(name) || WORDS.contains(&name) || is_placeholder(name);
-        let plain = !is_distinct(name);
-        if !known && !(plain && (!alone || sources.mentions(name))) {
+        let allowed = if is_distinct(name) {
+            sources.says(name)
+        } else {
+            !alone || sources.mentions(name)
+        };
+        if !known && !allowed {
             told.push(format!("nothing in crates/ defines `{name}`"));
         }
     }
@@ -172,7 +201,7 @@ fn listed<'a>(pairs: impl Iterator<Item = (&'a Piece, &'a Piece)>, first: &[&str
     names
 }
 
-/// The name that a code span is about: `demand-3` of `demand-3 : Demand-3`, `query` of `warrant::query(image, ..)`.
+/// The name that a code span is about: `demand_3` of `demand_3 : Demand_3`, `query` of `warrant::query(image, ..)`.
 fn name_of(code: &str) -> &str {
     let word = code.split([' ', '(']).next().unwrap_or_default();
     word.rsplit("::").next().unwrap_or_default()
@@ -198,9 +227,9 @@ fn is_name_letter(letter: char) -> bool {
     letter.is_alphanumeric() || "-_·'′".contains(letter)
 }
 
-/// `reply-child`, `checkImage` or `Answers`: no word of a text, a shell or a program looks so.
+/// `reply_child`, `loop-i-preserved` or `Answers`: no word of a text or a shell looks so.
 fn is_distinct(name: &str) -> bool {
-    name.contains('-') || name.contains(char::is_uppercase)
+    name.contains(['-', '_']) || name.contains(char::is_uppercase)
 }
 
 /// `NAME`, `FILE` and the answers, which stand for something.

@@ -14,6 +14,8 @@ pub struct Sources {
     definitions: BTreeMap<String, BTreeSet<String>>,
     /// The names that the Rust sources define, the calls of the header, and the words of the programs as text.
     words: BTreeSet<String>,
+    /// Those of the programs as text alone.
+    said: BTreeSet<String>,
 }
 
 impl Sources {
@@ -22,6 +24,7 @@ impl Sources {
             paths: BTreeSet::new(),
             definitions: BTreeMap::new(),
             words: BTreeSet::new(),
+            said: BTreeSet::new(),
         };
         sources.walk(root, "");
         sources
@@ -32,7 +35,8 @@ impl Sources {
             let entry = entry.expect("an entry");
             let name = entry.file_name().to_string_lossy().into_owned();
             let path = format!("{folder}{name}");
-            if name == "target" || name == ".git" {
+            let made = name == "out" && folder.starts_with("crates/");
+            if made || name == "target" || name == ".git" {
                 continue;
             }
             if entry.path().is_dir() {
@@ -60,7 +64,11 @@ impl Sources {
             let text = text();
             let words = text.split(|letter| !is_name_letter(letter));
             let own = words.filter(|word| ending == "delp" || word.starts_with("foqtirel_"));
-            self.words.extend(own.map(str::to_string));
+            let own: Vec<String> = own.map(str::to_string).collect();
+            if ending == "delp" {
+                self.said.extend(own.iter().cloned());
+            }
+            self.words.extend(own);
         }
     }
 
@@ -129,6 +137,11 @@ impl Sources {
     /// True if something outside `crates/` has the name.
     pub fn mentions(&self, name: &str) -> bool {
         self.words.contains(name)
+    }
+
+    /// True if a program as text has the name.
+    pub fn says(&self, name: &str) -> bool {
+        self.said.contains(name)
     }
 
     /// `crate::module::function`, `module::function` or `Type::Variant`.
