@@ -1,5 +1,5 @@
 //! Links the proved engine, `libfoqtirel.a`: from FOQTIREL_LIB_DIR where it is set, otherwise from where
-//! `rt staticlib foqtirel` writes it.
+//! `tools/build` writes it.
 
 use std::path::PathBuf;
 
@@ -14,9 +14,7 @@ fn main() {
     println!("cargo:rerun-if-changed={}", library.display());
     if !library.exists() {
         eprintln!("{} is not there.", library.display());
-        eprintln!(
-            "Make it with `rt staticlib foqtirel`, or set FOQTIREL_LIB_DIR to its directory."
-        );
+        eprintln!("Make it with `tools/build`, or set FOQTIREL_LIB_DIR to its directory.");
         std::process::exit(1);
     }
     println!("cargo:rustc-link-search=native={}", directory.display());

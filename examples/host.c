@@ -6,7 +6,7 @@
  * It prints the answer with its number of nodes and what it means. The exit status is 0 for an answer, 1 for a refusal, 2
  * where there was nothing to ask, and 3 where the image could not be read or the answer not be written.
  *
- *     rt staticlib foqtirel
+ *     tools/build
  *     cc -std=c99 -Iinclude examples/host.c target/staticlib/libfoqtirel.a -o target/host
  */
 #include "asking.h"

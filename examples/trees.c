@@ -8,7 +8,7 @@
  * literal. Then it prints the answer; UNKNOWN and UNFINISHED have no trees. The exit status is 0 for an answer, 1 for a
  * refusal, 2 where there was nothing to ask, and 3 where the image could not be read or the trees not be written.
  *
- *     rt staticlib foqtirel
+ *     tools/build
  *     cc -std=c99 -Iinclude examples/trees.c target/staticlib/libfoqtirel.a -o target/trees
  */
 #include "asking.h"

@@ -3,7 +3,7 @@
  * its arguments, and says whether it warrants a literal, with the literal's dialectical trees or without. Beside that it
  * shares out among the branches of a group what such answers cost.
  *
- * Link with libfoqtirel.a, which `rt staticlib foqtirel` writes to target/staticlib/, for x86-64 and the System V calling
+ * Link with libfoqtirel.a, which `tools/build` writes to target/staticlib/, for x86-64 and the System V calling
  * convention. It needs nothing else but the memory functions of a C library: memset, memcpy, memmove, memcmp.
  *
  * Its code is position independent, so that a shared library can be made of it, which offers the eight calls:

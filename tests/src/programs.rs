@@ -4,7 +4,7 @@ use std::path::PathBuf;
 
 use crate::header::root;
 
-/// `advise`, from FOQTIREL_BIN_DIR where that is set, otherwise from where `rt check advise` writes it.
+/// `advise`, from FOQTIREL_BIN_DIR where that is set, otherwise from where `tools/build` writes it.
 pub fn advise() -> PathBuf {
     let directory = match std::env::var("FOQTIREL_BIN_DIR") {
         Ok(named) if !named.is_empty() => PathBuf::from(named),
@@ -13,7 +13,7 @@ pub fn advise() -> PathBuf {
     let program = directory.join("advise");
     assert!(
         program.exists(),
-        "{} is not there: make it with `rt check advise`, or set FOQTIREL_BIN_DIR to its directory",
+        "{} is not there: make it with `tools/build`, or set FOQTIREL_BIN_DIR to its directory",
         program.display()
     );
     program

@@ -1,6 +1,6 @@
 //! The program `advise` and its streams: what it reads and prints, and what it says where it can't.
 //!
-//! It has no way to set an exit status, so that a failure shows in its line on standard error alone.
+//! It sets no exit status, so that a failure shows in its line on standard error alone.
 
 use std::fs::{File, OpenOptions};
 use std::io::{Read, Write};
