@@ -112,6 +112,11 @@ fn a_wrong_name_is_found() {
             "`reply_chid`",
             &["a.md:1: nothing in crates/ defines `reply_chid`"],
         ),
+        ("`bulletin_3 beats pod_fits`", &[]),
+        (
+            "`bulletin_3 beats bulletins_1`",
+            &["a.md:1: nothing in crates/ defines `bulletins_1`"],
+        ),
         (
             "`reply_kynd x`",
             &["a.md:1: nothing in crates/ defines `reply_kynd`"],

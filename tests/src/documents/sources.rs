@@ -16,6 +16,8 @@ pub struct Sources {
     words: BTreeSet<String>,
     /// Those of the programs as text alone.
     said: BTreeSet<String>,
+    /// The text of `tools/build`.
+    build: String,
 }
 
 impl Sources {
@@ -25,6 +27,7 @@ impl Sources {
             definitions: BTreeMap::new(),
             words: BTreeSet::new(),
             said: BTreeSet::new(),
+            build: fs::read_to_string(root.join("tools/build")).unwrap_or_default(),
         };
         sources.walk(root, "");
         sources
@@ -104,20 +107,29 @@ impl Sources {
         self.paths.contains(&format!("crates/{name}/src"))
     }
 
-    /// True for what a build makes: a program or a library of a crate, or the command-line tool.
+    /// True for what a build makes: a program or a library of a crate, which `tools/build` has to name, or the command-line
+    /// tool.
     pub fn makes(&self, folder: &str, made: &str) -> bool {
         if let Some(program) = made.strip_prefix("bin/") {
-            return self
-                .paths
-                .contains(&format!("crates/{program}/src/main.rt"));
+            let source = format!("crates/{program}/src/main.rt");
+            return self.paths.contains(&source) && self.builds(program);
         }
         if let Some(library) = made.strip_prefix("staticlib/") {
             let name = library
                 .strip_prefix("lib")
                 .and_then(|l| l.strip_suffix(".a"));
-            return library.is_empty() || name.is_some_and(|name| self.has_crate(name));
+            let there = |name| self.has_crate(name) && self.builds(library);
+            return library.is_empty() || name.is_some_and(there);
         }
         folder == "tool/" && made == "release/foqtirel"
+    }
+
+    /// True if `tools/build` copies a file of this name to where it is looked for.
+    fn builds(&self, file: &str) -> bool {
+        let words = self.build.split_whitespace();
+        words
+            .filter_map(|word| word.rsplit('/').next())
+            .any(|name| name == file)
     }
 
     /// True if a file of `crates/` defines the name, or it is the name of a crate.
