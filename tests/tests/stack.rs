@@ -373,7 +373,7 @@ fn a_smaller_budget_takes_less_stack() {
         let whole = least(length);
         let each = (whole - shallow) / (length - 1);
         for budget in [0, 30, 60, 120] {
-            let (stack, most) = (least(budget), shallow + budget * each + 2 * PAGE);
+            let (stack, most) = (least(budget), shallow + budget * each + PAGE);
             lines += &format!(
                 "least stack of {word} for a line of {length} with a budget of {budget}: {} KiB\n",
                 stack / KIB
