@@ -63,7 +63,7 @@ fn gather(table: &RuleTable, mask: u64, given: LiteralSet) -> Gathered
         let turned = round(table, mask, s);
         let t = turned.set;
         rounds += 1;
-        if t.same(s) {
+        if t == s {
             return Gathered {
                 set: s,
                 rounds: rounds,

@@ -40,7 +40,7 @@ fn same(table: &RuleTable, j: u64, defeasible: bool, body: LiteralSet) -> bool
     requires { j < 96 }
     ensures { SameIs result table.now j defeasible (head_at table.now j) (set_of body) }
 {
-    if !program::body(table, j).same(body) {
+    if program::body(table, j) != body {
         return false;
     }
     if defeasible {

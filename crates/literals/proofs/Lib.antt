@@ -7,3 +7,4 @@ pub mod Within
 pub mod Clashes
 pub mod Words
 mod Pairs
+pub mod Ascending

@@ -12,7 +12,8 @@ use lib.Dec.{eqb, lit<}
 use lib.Pow.{shl_exact, pow-lt, pow-add}
 use borrow.Author.Tests.{eqb-true, eq-eqb}
 use Rattle.literals.specs.Sets.{has, insert, union, minus, within, meets, clash_below, clash}
-use Rattle.literals.specs.Inside.Words.{joined}
+use Rattle.literals.specs.declared.LiteralSet.{LiteralSet}
+use Rattle.literals.specs.Inside.Words.{joined, set_of}
 use Rattle.literals.proofs.Tests.{same_test, and_intro, and_left, and_right, or_left, or_right, or_cases}
 use Rattle.literals.proofs.Bits.{bit_low, bit_high}
 use Rattle.literals.proofs.Members.{union_empty, insert_union}
@@ -124,3 +125,8 @@ module _ (h w : ℕ) (l : w < 2 ^ 64) where
       (λ e.
       ⊎_elim (λ q. clash_of_low (clash_pair 32 w q)) (λ q. clash_of_high (clash_pair 32 h q))
       (or_cases (clash_below 32 w) (clash_below 32 h) e))
+
+-- whether two sets are equal as pairs of words is whether they are equal
+pub same_set : (s t : LiteralSet) → s.lo < 2 ^ 64 → t.lo < 2 ^ 64 → (eqb s.lo t.lo && eqb s.hi t.hi) ≡ eqb (set_of s) (set_of t)
+unfolding set_of
+same_set s t p q = joined_eqb s.hi s.lo t.hi t.lo p q

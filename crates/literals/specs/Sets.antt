@@ -1,6 +1,6 @@
 -- Sets of small numbers, each held as one number: the sum of 2 ^ k over its members k. A set of literals and a mask of
 -- defeasible rules are both such sets. Written with division and remainder, so that they compute.
-use Rattle.std.specs.Prelude.{◌≡◌, Bool, true, false, not, ◌&&◌, ◌||◌, List, [], ◌∷◌, ℕ, zero, suc, ◌+◌, ◌-◌, ◌*◌, ◌/◌, ◌%◌, ◌^◌, ◌<◌, eqb}
+use Rattle.std.specs.Prelude.{◌≡◌, Bool, true, false, not, ◌&&◌, ◌||◌, List, [], ◌∷◌, Option, MatchOption, ℕ, zero, suc, ◌+◌, ◌-◌, ◌*◌, ◌/◌, ◌%◌, ◌^◌, ◌<◌, eqb}
 use Rattle.std.specs.Int.Bits.{bit_and, bit_or}
 use Rattle.lists.specs.Lists.{choose}
 
@@ -46,11 +46,19 @@ within a b = eqb (bit_and a b) a
 abbrev pub meets : ℕ → ℕ → Bool
 meets a b = not (eqb (bit_and a b) 0)
 
--- k is the lowest member of a word
-pub record Lowest (s k : ℕ) : Type 0 where
+-- k is the lowest member of a set of numbers below n
+pub record LowestBelow (n s k : ℕ) : Type 0 where
   pub member : has s k ≡ true
   pub least : (j : ℕ) → j < k → has s j ≡ false
-  pub small : k < 64
+  pub small : k < n
+
+-- of a word
+abbrev pub Lowest : ℕ → ℕ → Type 0
+Lowest = LowestBelow 64
+
+-- one step over the members of a set, ascending: the lowest is taken out, and where none is left there is none
+abbrev pub Taken : ℕ → ℕ → Option ℕ → ℕ → Type 0
+Taken n s r t = MatchOption r ((s ≡ 0) × (t ≡ 0)) (λ k. LowestBelow n s k × (t ≡ minus s (2 ^ k)))
 
 -- "derives some literal and its complement": 2a and 2a + 1 are both members, for some a below n
 unfoldable pub clash_below : ℕ → ℕ → Bool

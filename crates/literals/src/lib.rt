@@ -4,14 +4,15 @@
 
 ghost use Rattle.std.specs.Prelude.{◌≡◌, ◌<◌, ◌%◌, eqb};
 ghost use Rattle.std.specs.Int.Count.{ones};
+ghost use Rattle.std.specs.Iterator.{at_most};
 ghost use Rattle.literals.specs.Sets.{has as «has_of», insert as «insert_of», union as «union_of»};
-ghost use Rattle.literals.specs.Sets.{minus as «minus_of», within as «within_of», meets as «meets_of», clash};
+ghost use Rattle.literals.specs.Sets.{minus as «minus_of», within as «within_of», meets as «meets_of», clash, Taken};
 ghost use Rattle.literals.specs.Inside.Words.{joined, set_of};
 
 pub mod masks;
 
 // Bit l of lo is literal l, bit l of hi is literal 64 + l.
-#[derive(Clone, Copy)]
+#[derive(Clone, Copy, PartialEq, Eq, Debug)]
 pub struct LiteralSet {
     pub lo: u64,
     pub hi: u64,
@@ -93,13 +94,6 @@ impl LiteralSet {
         }
     }
 
-    // Both sets have the same members.
-    pub fn same(self, other: LiteralSet) -> bool
-        ensures { result ≡ eqb (set_of self) (set_of other) }
-    {
-        (self.lo == other.lo) & (self.hi == other.hi)
-    }
-
     // Both sets have some member.
     pub fn meets(self, other: LiteralSet) -> bool
         ensures { result ≡ meets_of (set_of self) (set_of other) }
@@ -129,5 +123,46 @@ impl LiteralSet {
         let lo = self.lo & (self.lo >> 1) & 0x5555_5555_5555_5555;
         let hi = self.hi & (self.hi >> 1) & 0x5555_5555_5555_5555;
         (lo | hi) != 0
+    }
+}
+
+// The literals of a set that are still to come.
+#[derive(Clone, Copy)]
+pub struct Literals {
+    left: LiteralSet,
+}
+
+// The literals of a set come in ascending order.
+impl IntoIterator for LiteralSet {
+    type Item = u64;
+
+    type IntoIter = Literals;
+
+    ghost into_iter_gives = { λ s it. it.left ≡ s };
+
+    fn into_iter(self) -> Literals {
+        Literals { left: self }
+    }
+}
+
+impl Iterator for Literals {
+    type Item = u64;
+
+    ghost next_gives = { λ s r t. Taken 128 (set_of s.left) r (set_of t.left) };
+
+    ghost remaining = { λ s. at_most (set_of s.left) };
+
+    fn next(&mut self) -> Option<u64> {
+        let lo = self.left.lo;
+        let hi = self.left.hi;
+        if lo != 0 {
+            self.left.lo = masks::rest(lo);
+            return Some(masks::lowest(lo));
+        }
+        if hi != 0 {
+            self.left.hi = masks::rest(hi);
+            return Some(64 + masks::lowest(hi));
+        }
+        None
     }
 }

@@ -1,7 +1,8 @@
 // Masks of defeasible rules: bit b is the rule that got bit b.
-ghost use Rattle.std.specs.Prelude.{◌≡◌, ℕ, ◌<◌, ◌^◌};
+ghost use Rattle.std.specs.Prelude.{◌≡◌, ℕ, ◌<◌, ◌≤◌, ◌^◌};
 ghost use Rattle.std.specs.Int.Count.{ones};
-ghost use Rattle.literals.specs.Sets.{has as «has_of», insert, minus, within as «within_of», Lowest};
+ghost use Rattle.std.specs.Iterator.{at_most};
+ghost use Rattle.literals.specs.Sets.{has as «has_of», insert, minus, within as «within_of», Lowest, Taken};
 
 // The rule with this bit is in the mask.
 pub fn has(mask: u64, bit: u64) -> bool
@@ -56,4 +57,34 @@ pub fn rest(mask: u64) -> u64
     ensures { (k : ℕ) → Lowest mask k → result ≡ minus mask (2 ^ k) }
 {
     mask & (mask - 1)
+}
+
+// The rules of a mask that are still to come.
+#[derive(Clone, Copy)]
+pub struct Ascending {
+    left: u64,
+}
+
+// The rules of a mask, ascending.
+pub fn bits(mask: u64) -> Ascending
+    ensures { result.left ≡ mask }
+{
+    Ascending { left: mask }
+}
+
+impl Iterator for Ascending {
+    type Item = u64;
+
+    ghost next_gives = { λ s r t. Taken 64 s.left r t.left };
+
+    ghost remaining = { λ s. at_most s.left };
+
+    fn next(&mut self) -> Option<u64> {
+        if self.left == 0 {
+            return None;
+        }
+        let bit = lowest(self.left);
+        self.left = rest(self.left);
+        Some(bit)
+    }
 }
