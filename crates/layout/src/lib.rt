@@ -1,43 +1,68 @@
-// The layout of the program image: a cursor over its bytes, its header and its directory.
+// The layout of the program image: a cursor over its bytes, its header and its directory; and the causes that turn an order
+// away.
 #![tactic(auto)]
+
+ghost use Rattle.std.specs.Prelude.{◌≡◌};
+ghost use Rattle.layout.specs.Causes.{number_of};
+
+use std::fmt;
 
 pub mod cursor;
 pub mod header;
 
-// Accepted, or the number and the place of the first cause that applies.
-#[derive(Clone, Copy)]
-pub enum Verdict {
-    Accepted,
-    Refused { number: u32, place: u32 },
+// The causes that turn an order away: document 01's numbers, under the names of include/foqtirel.h.
+#[derive(Clone, Copy, PartialEq, Eq, Debug)]
+pub enum Cause {
+    ImageLength = 1,
+    Header = 2,
+    Directory = 3,
+    RuleLength = 4,
+    RuleKind = 5,
+    LiteralRange = 6,
+    BodyOrder = 7,
+    DefeasibleWithoutBody = 8,
+    TooManyDefeasible = 9,
+    RepeatedRule = 10,
+    LastPartLength = 11,
+    PairNames = 12,
+    PairOrder = 13,
+    StrictContradiction = 14,
+    QueryLiteral = 20,
+    Budget = 21,
+    NodeTable = 22,
+    ArgumentTable = 23,
+    OutputTable = 24,
+    NumberTable = 25,
+    Misfiled = 26,
+    ImageAccepted = 28,
+    MarkTable = 29,
 }
 
-// The causes that refuse an image: document 01's numbers under the names of include/foqtirel.h.
-impl Verdict {
-    pub const IMAGE_LENGTH: u32 = 1;
+impl Cause {
+    // The cause's number.
+    pub fn number(self) -> u32
+        ensures { result ≡ number_of self }
+    {
+        self as u32
+    }
 
-    pub const HEADER: u32 = 2;
+    // The refusal by this cause, at a place.
+    pub fn at(self, place: u32) -> Refusal
+        ensures { result ≡ record { cause = self; place = place } }
+    {
+        Refusal { cause: self, place }
+    }
+}
 
-    pub const DIRECTORY: u32 = 3;
+// The first cause that applies, and its place: the number of a rule or of a pair, or 0.
+#[derive(Clone, Copy, PartialEq, Eq, Debug)]
+pub struct Refusal {
+    pub cause: Cause,
+    pub place: u32,
+}
 
-    pub const RULE_LENGTH: u32 = 4;
-
-    pub const RULE_KIND: u32 = 5;
-
-    pub const LITERAL_RANGE: u32 = 6;
-
-    pub const BODY_ORDER: u32 = 7;
-
-    pub const DEFEASIBLE_WITHOUT_BODY: u32 = 8;
-
-    pub const TOO_MANY_DEFEASIBLE: u32 = 9;
-
-    pub const REPEATED_RULE: u32 = 10;
-
-    pub const LAST_PART_LENGTH: u32 = 11;
-
-    pub const PAIR_NAMES: u32 = 12;
-
-    pub const PAIR_ORDER: u32 = 13;
-
-    pub const STRICT_CONTRADICTION: u32 = 14;
+impl fmt::Display for Refusal {
+    fn fmt<W: fmt::Write>(&self, f: &mut fmt::Formatter<W>) -> fmt::Result {
+        write!(f, "refused {} {}", self.cause.number(), self.place)
+    }
 }
