@@ -6,7 +6,7 @@ use Rattle.layout.specs.declared.Cause.{Cause}
 use Rattle.layout.specs.declared.Cause.TheVariants.{ImageLength, Header, Directory, RuleLength, RuleKind, LiteralRange, BodyOrder, DefeasibleWithoutBody, TooManyDefeasible, RepeatedRule, LastPartLength}
 use Rattle.layout.specs.declared.Cause.TheVariants.{PairNames, PairOrder, StrictContradiction, QueryLiteral, Budget, NodeTable, ArgumentTable, OutputTable, NumberTable, Misfiled, ImageAccepted, MarkTable}
 use Rattle.layout.specs.declared.Refusal.{Refusal}
-use Rattle.layout.specs.Layout.{number_at, atoms_of, rules_of, pairs_of_of, offset_of, size_of, part_of, kind_byte, body_bytes, first_of, second_of}
+use Rattle.layout.specs.Layout.{number_at, atoms_of, rules_of, pair_count_of, offset_of, size_of, part_of, kind_byte, body_bytes, first_of, second_of}
 
 -- document 01's number of each cause
 abbrev pub number_of : Cause → ℕ
@@ -69,7 +69,7 @@ bad_length s = ltb (length s) 12 || ltb 1836 (length s)
 
 -- 2: "A, R or P over its limit, or bytes 6-7 not zero"
 abbrev pub bad_counts : List ℕ → Bool
-bad_counts s = ltb 64 (atoms_of s) || (ltb 96 (rules_of s) || (ltb 240 (pairs_of_of s) || not (eqb (number_at s 6) 0)))
+bad_counts s = ltb 64 (atoms_of s) || (ltb 96 (rules_of s) || (ltb 240 (pair_count_of s) || not (eqb (number_at s 6) 0)))
 
 -- 3: "Directory doesn't fit the image or breaks the offset rule": "The first offset is 12 + 4R; each later one is the
 -- previous offset plus the previous length; the last part ends where the image ends." `ends` is where the part before
@@ -156,7 +156,7 @@ rules_verdict s before i (suc n) = and_then (rule_verdict s before i) (rules_ver
 
 -- 11: "Last part isn't 2 × P bytes"
 abbrev pub bad_pairs : List ℕ → Bool
-bad_pairs s = not (eqb (size_of s (rules_of s)) (2 * pairs_of_of s))
+bad_pairs s = not (eqb (size_of s (rules_of s)) (2 * pair_count_of s))
 
 -- 12: "A pair naming a rule that is absent or not defeasible, or one rule twice"
 abbrev pub not_defeasible : List ℕ → ℕ → Bool
@@ -190,4 +190,4 @@ verdict s =
     (and_then (refuse (bad_counts s) Header 0)
     (and_then (refuse (bad_directory s) Directory 0)
     (and_then (rules_verdict s 0 0 (rules_of s))
-    (and_then (refuse (bad_pairs s) LastPartLength 0) (pairs_verdict s 0 (pairs_of_of s))))))
+    (and_then (refuse (bad_pairs s) LastPartLength 0) (pairs_verdict s 0 (pair_count_of s))))))
