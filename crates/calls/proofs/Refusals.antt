@@ -13,7 +13,7 @@ use Rattle.literals.proofs.Tests.{true_T, not_true_false}
 use Rattle.program.specs.Program.{Π}
 use Rattle.layout.specs.declared.Verdict.{Verdict}
 use Rattle.layout.specs.declared.Verdict.TheVariants.{Accepted, Refused}
-use Rattle.layout.specs.Layout.{atoms_of, rules_of, pairs_of_of, part_of}
+use Rattle.layout.specs.Layout.{atoms_of, rules_of, pair_count_of, part_of}
 use Rattle.layout.specs.Causes.{refuse, and_then, bad_length, bad_counts, bad_directory, bad_size, bad_kind, bad_literal}
 use Rattle.layout.specs.Causes.{bad_body, bad_empty}
 use Rattle.layout.specs.Causes.{bad_seventeenth, bad_repeat, bad_pairs, bad_pair, bad_order}
@@ -234,7 +234,7 @@ module _ (s : List ℕ) where
   -- ---- the reading of an image: 1 to 13
 
   abbrev Last : Causes
-  Last = Either (Only (bad_pairs s) 11 0) (OfPairs 0 (pairs_of_of s))
+  Last = Either (Only (bad_pairs s) 11 0) (OfPairs 0 (pair_count_of s))
 
   abbrev Rules : Causes
   Rules = Either (OfRules 0 (rules_of s)) Last
@@ -248,7 +248,7 @@ module _ (s : List ℕ) where
   abbrev Read : Causes
   Read = Either (Only (bad_length s) 1 0) Header
 
-  pairs_span : Spans (OfPairs 0 (pairs_of_of s)) 11 13
+  pairs_span : Spans (OfPairs 0 (pair_count_of s)) 11 13
   pairs_span n p (h, l, c) = let k = pair_number c in let a = k.0 in (omega arith, k.1)
 
   rules_span : Spans (OfRules 0 (rules_of s)) 3 10
@@ -292,7 +292,7 @@ module _ (s : List ℕ) where
       (judged_one (bad_directory s) 3 0) (λ _.
       judged_then (late_cut 3 10 13 (inr (omega arith), inl (omega arith)) rules_span last_span) (rules_judged 0 (rules_of s)) (λ _.
       judged_then (late_cut 10 11 13 (inr (omega arith), inl (omega arith)) (only_spans (bad_pairs s) 11 0 10 11 (omega arith) (omega arith)) pairs_span)
-      (judged_one (bad_pairs s) 11 0) (λ _. pairs_judged 0 (pairs_of_of s))))))
+      (judged_one (bad_pairs s) 11 0) (λ _. pairs_judged 0 (pair_count_of s))))))
 
   -- ---- 14
 
@@ -479,12 +479,12 @@ abbrev pub Bounded : ℕ → ℕ → Type 0
 Bounded n place = (1 ≤ n) × (n ≤ 23) × (place < 240)
 
 module _ (s : List ℕ) where
-  counts_few : ¬ T (bad_counts s) → (rules_of s ≤ 96) × (pairs_of_of s ≤ 240)
+  counts_few : ¬ T (bad_counts s) → (rules_of s ≤ 96) × (pair_count_of s ≤ 240)
   counts_few f =
       let none = not_true_false (bad_counts s) (λ e. f (true_T (bad_counts s) e)) in
       let more = neither_right (ltb 64 (atoms_of s)) _ none in
-      let pairs = neither_left (ltb 240 (pairs_of_of s)) _ (neither_right (ltb 96 (rules_of s)) _ more) in
-      (within_of 96 (rules_of s) (neither_left (ltb 96 (rules_of s)) _ more), within_of 240 (pairs_of_of s) pairs)
+      let pairs = neither_left (ltb 240 (pair_count_of s)) _ (neither_right (ltb 96 (rules_of s)) _ more) in
+      (within_of 96 (rules_of s) (neither_left (ltb 96 (rules_of s)) _ more), within_of 240 (pair_count_of s) pairs)
 
   -- 2 is looked for before 4 to 13
   counts_first : (n p : ℕ) → 3 ≤ n → Earlier 2 0 n p

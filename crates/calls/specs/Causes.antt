@@ -4,7 +4,7 @@ use Rattle.std.specs.Prelude.{◌≡◌, List, ◌⊎◌, ℕ, zero, suc, ◌≤
 use Rattle.program.specs.Program.{Π}
 use Rattle.layout.specs.declared.Verdict.{Verdict}
 use Rattle.layout.specs.declared.Verdict.TheVariants.{Accepted, Refused}
-use Rattle.layout.specs.Layout.{atoms_of, rules_of, pairs_of_of, part_of, kind_byte}
+use Rattle.layout.specs.Layout.{atoms_of, rules_of, pair_count_of, part_of, kind_byte}
 use Rattle.layout.specs.Causes.{bad_length, bad_counts, bad_directory, bad_size, bad_kind, bad_literal, bad_body, bad_empty}
 use Rattle.layout.specs.Causes.{bad_seventeenth, bad_repeat, bad_pairs, bad_pair, bad_order, count_kind}
 use Rattle.layout.specs.Reading.{program_in}
@@ -67,7 +67,7 @@ module _ (image : List ℕ) where
     directory : T (bad_directory image) → ImageCause 3 0
     of_rule : {i number : ℕ} → i < rules_of image → RuleCause i number → ImageCause number i
     last_part : T (bad_pairs image) → ImageCause 11 0
-    of_pair : {j number : ℕ} → j < pairs_of_of image → PairCause j number → ImageCause number j
+    of_pair : {j number : ℕ} → j < pair_count_of image → PairCause j number → ImageCause number j
     -- "Π contradictory"
     contradictory : Contradictory (Π (program_in image).rules) → ImageCause 14 0
 

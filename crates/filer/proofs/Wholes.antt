@@ -10,7 +10,7 @@ use Rattle.lists.specs.Inside.Stores.{Written}
 use Rattle.lists.proofs.Numberings.{numbering_length}
 use Rattle.lists.proofs.Stores.{written_append}
 use Rattle.program.specs.Program.{Rule, Program, rule_at}
-use Rattle.layout.specs.Layout.{atoms_of, rules_of, pairs_of_of, part_of}
+use Rattle.layout.specs.Layout.{atoms_of, rules_of, pair_count_of, part_of}
 use Rattle.layout.specs.Reading.{program_in}
 use Rattle.writing.specs.Image.{Bytes, rule_bytes, pair_bytes, parts_of, directory, together, header_bytes, image_of}
 use Rattle.writing.specs.Inside.Steps.{PartsAt, Numbers, parts_by, entry_bytes}
@@ -56,10 +56,10 @@ module _ (s : List ℕ) (acc : AcceptedImage s) (n : ℕ) (rules_are : n ≡ rul
   rules_count : length moved.rules ≡ n
   rules_count = ordered_length (program_in s) (take n order) numbering (wellformed s acc) ∙ numbering_length n (take n order) o
 
-  pairs_are : length moved.pairs ≡ pairs_of_of s
+  pairs_are : length moved.pairs ≡ pair_count_of s
   pairs_are = pairs_count (program_in s) (take n order) numbering (writable s acc) ∙ pair_count s (reads s acc)
 
-  last_length : length last ≡ 2 * pairs_of_of s
+  last_length : length last ≡ 2 * pair_count_of s
   last_length = pair_bytes_length moved.pairs ∙ ap (λ (k : ℕ). 2 * k) pairs_are
 
   parts_are : parts_of moved ≡ parts ++ (last ∷ [])
@@ -72,7 +72,7 @@ module _ (s : List ℕ) (acc : AcceptedImage s) (n : ℕ) (rules_are : n ≡ rul
   together_is =
       ap together parts_are ∙ together_append parts (last ∷ []) ∙ ap (λ (l : List ℕ). together parts ++ l) (append-nil last)
 
-  pub total : 12 + 4 * n + (length (together parts) + 2 * pairs_of_of s) ≡ length s
+  pub total : 12 + 4 * n + (length (together parts) + 2 * pair_count_of s) ≡ length s
   total =
       omega (arith, rules_count, last_length, ap (λ (l : List ℕ). length l) together_is, length-append (together parts) last, image_length moved, ordered_image_length (program_in s) (take n order) numbering (writable s acc), image_as_long s (reads s acc))
 
@@ -88,25 +88,25 @@ module _ (s : List ℕ) (acc : AcceptedImage s) (n : ℕ) (rules_are : n ≡ rul
     header =
         ap (λ (a : ℕ). header_bytes a (length moved.rules) (length moved.pairs)) same_atoms
         ∙ ap₂ (header_bytes (atoms_of s)) (rules_count ∙ rules_are) pairs_are
-        ∙ sym (ap (take 8) (header_written s (reads s acc) bytes) ∙ take_at (header_bytes (atoms_of s) (rules_of s) (pairs_of_of s)) (drop 8 s) 8 refl)
+        ∙ sym (ap (take 8) (header_written s (reads s acc) bytes) ∙ take_at (header_bytes (atoms_of s) (rules_of s) (pair_count_of s)) (drop 8 s) 8 refl)
 
-    entries : directory (12 + 4 * n) (parts_of moved) ≡ directory (12 + 4 * n) parts ++ entry_bytes (12 + 4 * n + length (together parts)) (2 * pairs_of_of s)
+    entries : directory (12 + 4 * n) (parts_of moved) ≡ directory (12 + 4 * n) parts ++ entry_bytes (12 + 4 * n + length (together parts)) (2 * pair_count_of s)
     entries =
         ap (directory (12 + 4 * n)) parts_are
         ∙ directory_append (12 + 4 * n) parts (last ∷ [])
         ∙ ap (λ (k : ℕ). directory (12 + 4 * n) parts ++ entry_bytes (12 + 4 * n + length (together parts)) k) last_length
 
     pieces : image_of moved
-        ≡ take 8 s ++ (directory (12 + 4 * n) parts ++ (entry_bytes (12 + 4 * n + length (together parts)) (2 * pairs_of_of s) ++ (together parts ++ last)))
+        ≡ take 8 s ++ (directory (12 + 4 * n) parts ++ (entry_bytes (12 + 4 * n + length (together parts)) (2 * pair_count_of s) ++ (together parts ++ last)))
     unfolding image_of
     pieces =
         ap₂ (λ (h : List ℕ) (k : ℕ). h ++ (directory (12 + 4 * k) (parts_of moved) ++ together (parts_of moved))) header rules_count
         ∙ ap₂ (λ (d t : List ℕ). take 8 s ++ (d ++ t)) entries together_is
         ∙ ap (λ (l : List ℕ). take 8 s ++ l)
-        (append_assoc (directory (12 + 4 * n) parts) (entry_bytes (12 + 4 * n + length (together parts)) (2 * pairs_of_of s)) (together parts ++ last))
+        (append_assoc (directory (12 + 4 * n) parts) (entry_bytes (12 + 4 * n + length (together parts)) (2 * pair_count_of s)) (together parts ++ last))
 
     -- each piece written after the one before
-    pub pieces_written : (count : ℕ) → count ≡ pairs_of_of s → (a b c d e after : List ℕ) (h at from next end : ℕ)
+    pub pieces_written : (count : ℕ) → count ≡ pair_count_of s → (a b c d e after : List ℕ) (h at from next end : ℕ)
         → Written a b 0 h (take 8 s) → Written b c h at (directory (12 + 4 * n) parts) → from ≡ 12 + 4 * n + length (together parts)
         → Written c d at next (entry_bytes from (2 * count)) → Written d e next end (together parts) → after ≡ sets e end last
         → after ≡ sets a 0 (image_of moved)
@@ -118,9 +118,9 @@ module _ (s : List ℕ) (acc : AcceptedImage s) (n : ℕ) (rules_are : n ≡ rul
         (record { stored = fifth; next_is = refl }))))).stored
       where
         entry : List ℕ
-        entry = entry_bytes (12 + 4 * n + length (together parts)) (2 * pairs_of_of s)
+        entry = entry_bytes (12 + 4 * n + length (together parts)) (2 * pair_count_of s)
 
-        entry_is : entry_bytes from (2 * count) ≡ entry_bytes (12 + 4 * n + length (together parts)) (2 * pairs_of_of s)
+        entry_is : entry_bytes from (2 * count) ≡ entry_bytes (12 + 4 * n + length (together parts)) (2 * pair_count_of s)
         entry_is = ap₂ entry_bytes from_is (ap (λ (k : ℕ). 2 * k) count_is)
 
         rest₃ : List ℕ

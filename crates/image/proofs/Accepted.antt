@@ -18,7 +18,7 @@ use Rattle.program.specs.Limits.{DefeasibleAt, PairOf, Limits}
 use Rattle.program.proofs.Fillings.{bit_of_next}
 use Rattle.layout.specs.declared.Verdict.{Verdict}
 use Rattle.layout.specs.declared.Verdict.TheVariants.{Accepted, Refused}
-use Rattle.layout.specs.Layout.{number_at, size_of, atoms_of, rules_of, pairs_of_of, part_of, kind_byte, head_byte, body_bytes, first_of, second_of}
+use Rattle.layout.specs.Layout.{number_at, size_of, atoms_of, rules_of, pair_count_of, part_of, kind_byte, head_byte, body_bytes, first_of, second_of}
 use Rattle.layout.specs.Causes.{refuse, and_then, all_below, ascending, bad_size, bad_kind, bad_literal, bad_body, bad_empty, bad_seventeenth, bad_length, bad_counts, bad_directory, bad_pairs, bad_pair, not_defeasible, part_verdict, rule_verdict, count_kind, rules_verdict, pair_verdict, pairs_verdict, parts_follow, verdict}
 use Rattle.layout.specs.Reading.{rule_in, rules_in, program_in}
 use Rattle.layout.specs.Inside.Steps.{PartAt}
@@ -73,13 +73,13 @@ part_sound part atoms before place e =
 pub record Sound (s : List ℕ) : Type 0 where
   pub few_atoms : atoms_of s ≤ 64
   pub few_rules : rules_of s ≤ 96
-  pub few_pairs : pairs_of_of s ≤ 240
+  pub few_pairs : pair_count_of s ≤ 240
   pub zeros : number_at s 6 ≡ 0
   pub follow : parts_follow s (12 + 4 * rules_of s) 0 (rules_of s + 1) ≡ true
   pub parts : (i : ℕ) → i ≤ rules_of s → PartAt s i
   pub rules_accepted : rules_verdict s 0 0 (rules_of s) ≡ Accepted
-  pub pairs_size : size_of s (rules_of s) ≡ 2 * pairs_of_of s
-  pub pairs_accepted : pairs_verdict s 0 (pairs_of_of s) ≡ Accepted
+  pub pairs_size : size_of s (rules_of s) ≡ 2 * pair_count_of s
+  pub pairs_accepted : pairs_verdict s 0 (pair_count_of s) ≡ Accepted
 
 pub accepted_sound : (s : List ℕ) → verdict s ≡ Accepted → Sound s
 unfolding verdict
@@ -95,12 +95,12 @@ accepted_sound s e =
     record {
       few_atoms = ltb-false 64 (atoms_of s) (neither_left (ltb 64 (atoms_of s)) _ two);
       few_rules = ltb-false 96 (rules_of s) (neither_left (ltb 96 (rules_of s)) _ more);
-      few_pairs = ltb-false 240 (pairs_of_of s) (neither_left (ltb 240 (pairs_of_of s)) _ last);
-      zeros = eqb-true (number_at s 6) 0 (not-false _ (neither_right (ltb 240 (pairs_of_of s)) _ last));
+      few_pairs = ltb-false 240 (pair_count_of s) (neither_left (ltb 240 (pair_count_of s)) _ last);
+      zeros = eqb-true (number_at s 6) 0 (not-false _ (neither_right (ltb 240 (pair_count_of s)) _ last));
       follow = not-false _ (neither_right (ltb (length s) (12 + 4 * rules_of s)) _ three);
       parts = directory_part s three;
       rules_accepted = then_left (rules_verdict s 0 0 (rules_of s)) _ e4;
-      pairs_size = eqb-true (size_of s (rules_of s)) (2 * pairs_of_of s) (not-false _ (refuse_not (bad_pairs s) 11 0 (then_left (refuse (bad_pairs s) 11 0) _ e11)));
+      pairs_size = eqb-true (size_of s (rules_of s)) (2 * pair_count_of s) (not-false _ (refuse_not (bad_pairs s) 11 0 (then_left (refuse (bad_pairs s) 11 0) _ e11)));
       pairs_accepted = then_right (refuse (bad_pairs s) 11 0) _ e11;
     }
 
@@ -146,16 +146,16 @@ module _ (s : List ℕ) (sound : Sound s) where
       go false e f = omega (arith, rule_next j h ∙ ap (λ (k : Kind). next_bit k (bit_of rules j)) (kind_strict (part_of s j) e))
 
   -- ---- the pairs, one by one
-  pairs_onward : (j : ℕ) → j ≤ pairs_of_of s → pairs_verdict s j (pairs_of_of s - j) ≡ Accepted
-  pairs_onward zero h = ap (λ (n : ℕ). pairs_verdict s 0 n) (sub-zero (pairs_of_of s)) ∙ sound.pairs_accepted
+  pairs_onward : (j : ℕ) → j ≤ pair_count_of s → pairs_verdict s j (pair_count_of s - j) ≡ Accepted
+  pairs_onward zero h = ap (λ (n : ℕ). pairs_verdict s 0 n) (sub-zero (pair_count_of s)) ∙ sound.pairs_accepted
   pairs_onward (suc j) h =
-      let step = pairs_next s j (pairs_of_of s) _ (omega arith) refl in
-      ap (λ (k : ℕ). pairs_verdict s k (pairs_of_of s - k)) (sym (add-one j)) ∙ then_right (pair_verdict s j) _ (sym step ∙ pairs_onward j (omega arith))
+      let step = pairs_next s j (pair_count_of s) _ (omega arith) refl in
+      ap (λ (k : ℕ). pairs_verdict s k (pair_count_of s - k)) (sym (add-one j)) ∙ then_right (pair_verdict s j) _ (sym step ∙ pairs_onward j (omega arith))
 
-  pub pair_sound : (j : ℕ) → j < pairs_of_of s → bad_pair s j ≡ false
+  pub pair_sound : (j : ℕ) → j < pair_count_of s → bad_pair s j ≡ false
   unfolding pair_verdict
   pair_sound j h =
-      let step = pairs_next s j (pairs_of_of s) _ h refl in
+      let step = pairs_next s j (pair_count_of s) _ h refl in
       refuse_not (bad_pair s j) 12 j (then_left (refuse (bad_pair s j) 12 j) _ (then_left (pair_verdict s j) _ (sym step ∙ pairs_onward j (omega arith))))
 
   named_sound : (a : ℕ) → not_defeasible s a ≡ false → DefeasibleAt rules a
@@ -166,7 +166,7 @@ module _ (s : List ℕ) (sound : Sound s) where
         kind_is = ap (λ (r : Rule). r.kind) (rules_at s (rules_of s) a h) ∙ kind_defeasible (part_of s a) (not-false _ (neither_right (leb (rules_of s) a) _ e));
       }
 
-  pub pair_named : (j : ℕ) → j < pairs_of_of s → PairOf rules (first_of s j) (second_of s j)
+  pub pair_named : (j : ℕ) → j < pair_count_of s → PairOf rules (first_of s j) (second_of s j)
   pair_named j h =
       let e = pair_sound j h in
       let f = neither_right (not_defeasible s (first_of s j)) _ e in
@@ -203,7 +203,7 @@ module _ (s : List ℕ) (sound : Sound s) where
         let x = rules_found s 0 (rules_of s) r m in
         all_below_lem (2 * atoms_of s) (body_bytes (part_of s x.0)) (body_below x.0 (omega (arith, x.2))) l (subst (λ (q : Rule). Memᴰ l q.body) x.3 k);
     pairs_name = λ a b m.
-        let x = pairs_found s 0 (pairs_of_of s) a b m in
+        let x = pairs_found s 0 (pair_count_of s) a b m in
         subst (λ (k : ℕ). PairOf rules k b) (sym x.3) (subst (λ (k : ℕ). PairOf rules (first_of s x.0) k) (sym x.4) (pair_named x.0 (omega (arith, x.2))));
   }
     where

@@ -23,7 +23,7 @@ use Rattle.program.proofs.Fillings.{rows_same}
 use Rattle.layout.specs.declared.cursor.Cursor.{Cursor}
 use Rattle.layout.specs.declared.cursor.Pair.TheVariants as pair
 use Rattle.layout.specs.declared.Verdict.TheVariants.{Accepted, Refused}
-use Rattle.layout.specs.Layout.{rules_of, pairs_of_of, size_of, part_of, kind_byte, first_of, second_of}
+use Rattle.layout.specs.Layout.{rules_of, pair_count_of, size_of, part_of, kind_byte, first_of, second_of}
 use Rattle.layout.specs.Causes.{refuse, not_defeasible, bad_pair, bad_order, pair_code, pair_verdict, pairs_verdict}
 use Rattle.layout.specs.Reading.{pairs_in, program_in}
 use Rattle.layout.specs.Inside.Steps.{pair_from, Located}
@@ -40,23 +40,23 @@ use Rattle.image.proofs.Repeated.{need_kind, kind_test}
 -- what the walk over the pairs has left
 pub record Pairing (s : List ℕ) (cursor : Cursor) (least place : ℕ) (t : List ℕ) : Type 0 where
   pub here : cursor.at ≡ 2 * place
-  pub inside : place ≤ pairs_of_of s
+  pub inside : place ≤ pair_count_of s
   pub long : length t ≡ 419
   pub rows : RowsTo (all_rules s) (rules_of s) t
-  pub verdict : pairs_verdict s 0 (pairs_of_of s) ≡ pairs_verdict s place (pairs_of_of s - place)
+  pub verdict : pairs_verdict s 0 (pair_count_of s) ≡ pairs_verdict s place (pair_count_of s - place)
   pub order : bad_order s place ≡ ltb (pair_code s place) least
-  pub left : (i : ℕ) → is_defeasible (rule_at (all_rules s) i).kind ≡ true → listed_from (all_rules s) i 0 (pairs_in s 0 (pairs_of_of s)) ≡ listed_from (all_rules s) i (beaten_at t (bit_of (all_rules s) i)) (pairs_in s place (pairs_of_of s - place))
+  pub left : (i : ℕ) → is_defeasible (rule_at (all_rules s) i).kind ≡ true → listed_from (all_rules s) i 0 (pairs_in s 0 (pair_count_of s)) ≡ listed_from (all_rules s) i (beaten_at t (bit_of (all_rules s) i)) (pairs_in s place (pair_count_of s - place))
 
 -- what the rules have left, by the bytes of the last part
 pub record Base (s bytes : List ℕ) (rules count : ℕ) : Type 0 where
   pub rules_are : rules ≡ rules_of s
-  pub count_is : count ≡ pairs_of_of s
+  pub count_is : count ≡ pair_count_of s
   pub few : rules_of s ≤ 96
   pub bits : defeasibles (all_rules s) ≤ 16
   pub part : bytes ≡ part_of s (rules_of s)
   pub size : length bytes ≡ size_of s (rules_of s)
 
-pub base_of : (s t : List ℕ) (bits from rules count : ℕ) → AllRead s t bits from → rules ≡ rules_of s → rules ≤ 96 → count ≡ pairs_of_of s → Base s (take (length s - from) (drop from s)) rules count
+pub base_of : (s t : List ℕ) (bits from rules count : ℕ) → AllRead s t bits from → rules ≡ rules_of s → rules ≤ 96 → count ≡ pair_count_of s → Base s (take (length s - from) (drop from s)) rules count
 base_of s t bits from rules count all are few is =
     let l : Located s (rules_of s) from (length s) = record { from_is = all.from_is; to_is = sym all.ends } in
     record {
@@ -80,7 +80,7 @@ module _ (s bytes : List ℕ) (rules count : ℕ) (base : Base s bytes rules cou
     rows = rows_same (all_rules s) (rules_of s) t u base.few base.bits same r;
     verdict = rw sub-zero refl;
     order = sym (le-ltb (pair_code s 0) 0 (omega arith));
-    left = λ i d. ap₂ (λ (m n : ℕ). listed_from (all_rules s) i m (pairs_in s 0 n)) (sym (none (bit_of (all_rules s) i) (bit_small i d))) (sym (sub-zero (pairs_of_of s)));
+    left = λ i d. ap₂ (λ (m n : ℕ). listed_from (all_rules s) i m (pairs_in s 0 n)) (sym (none (bit_of (all_rules s) i) (bit_small i d))) (sym (sub-zero (pair_count_of s)));
   }
 
   module _ (cursor : Cursor) (least j : ℕ) (t : List ℕ) (w : Pairing s cursor least j t) where
@@ -105,7 +105,7 @@ module _ (s bytes : List ℕ) (rules count : ℕ) (base : Base s bytes rules cou
     pub record Taken (a b : ℕ) (next : Cursor) : Type 0 where
       pub first : a ≡ first_of s j
       pub second : b ≡ second_of s j
-      pub more : j < pairs_of_of s
+      pub more : j < pair_count_of s
       pub next_at : next.at ≡ cursor.at + 2
       pub less : cursor.at + 2 ≤ length bytes
 
@@ -134,8 +134,8 @@ module _ (s bytes : List ℕ) (rules count : ℕ) (base : Base s bytes rules cou
           ∙ ap₂ (λ (x y : ℕ). pair_tested t (rules_of s) x y least j) first second
           ∙ pair_by s j (absent_in t (rules_of s) (first_of s j)) (absent_in t (rules_of s) (second_of s j)) (eqb (first_of s j) (second_of s j)) (ltb (pair_code s j) least) (sym (absent_is (first_of s j))) (sym (absent_is (second_of s j))) refl w.order
 
-      pub pairing_refused : (n p : ℕ) → pair_verdict s j ≡ Refused n p → pairs_verdict s 0 (pairs_of_of s) ≡ Refused n p
-      pairing_refused n p e = w.verdict ∙ pairs_next s j (pairs_of_of s) (Refused n p) now.more e
+      pub pairing_refused : (n p : ℕ) → pair_verdict s j ≡ Refused n p → pairs_verdict s 0 (pair_count_of s) ≡ Refused n p
+      pairing_refused n p e = w.verdict ∙ pairs_next s j (pair_count_of s) (Refused n p) now.more e
 
       module _ (e : pair_verdict s j ≡ Accepted) where
         fine : bad_pair s j ≡ false
@@ -180,21 +180,21 @@ module _ (s bytes : List ℕ) (rules count : ℕ) (base : Base s bytes rules cou
           abbrev mask : ℕ
           mask = union (beaten_at t (bit_of (all_rules s) a)) (need_at t b)
 
-          rest : (i : ℕ) → is_defeasible (rule_at (all_rules s) i).kind ≡ true → Dec (i ≡ a) → listed_from (all_rules s) i (beaten_at t (bit_of (all_rules s) i)) (pairs_in s j (pairs_of_of s - j)) ≡ listed_from (all_rules s) i (beaten_at (with_beaten t (bit_of (all_rules s) a) mask) (bit_of (all_rules s) i)) (pairs_in s (j + 1) (pairs_of_of s - (j + 1)))
+          rest : (i : ℕ) → is_defeasible (rule_at (all_rules s) i).kind ≡ true → Dec (i ≡ a) → listed_from (all_rules s) i (beaten_at t (bit_of (all_rules s) i)) (pairs_in s j (pair_count_of s - j)) ≡ listed_from (all_rules s) i (beaten_at (with_beaten t (bit_of (all_rules s) a) mask) (bit_of (all_rules s) i)) (pairs_in s (j + 1) (pair_count_of s - (j + 1)))
           rest i d (yes q) =
               let long = w.long in
               let f = bit_few in
               let here : beaten_at (with_beaten t (bit_of (all_rules s) a) mask) (bit_of (all_rules s) i) ≡ mask =
               ap (λ (x : ℕ). beaten_at (with_beaten t (bit_of (all_rules s) a) mask) (bit_of (all_rules s) x)) q ∙ get_or-set_same t (400 + bit_of (all_rules s) a) mask 0 (omega arith) in
-              listed_one s (all_rules s) i (beaten_at t (bit_of (all_rules s) i)) j (pairs_of_of s) now.more (sym first ∙ sym q)
-              ∙ ap (λ (m : ℕ). listed_from (all_rules s) i m (pairs_in s (j + 1) (pairs_of_of s - (j + 1))))
+              listed_one s (all_rules s) i (beaten_at t (bit_of (all_rules s) i)) j (pair_count_of s) now.more (sym first ∙ sym q)
+              ∙ ap (λ (m : ℕ). listed_from (all_rules s) i m (pairs_in s (j + 1) (pair_count_of s - (j + 1))))
               (insert_union (beaten_at t (bit_of (all_rules s) i)) (bit_of (all_rules s) (second_of s j))
               ∙ ap₂ union (ap (λ (x : ℕ). beaten_at t (bit_of (all_rules s) x)) q) (ap (λ (x : ℕ). 2 ^ bit_of (all_rules s) x) (sym second) ∙ sym (need_is b other))
               ∙ sym here)
           rest i d (no q) =
               let apart : bit_of (all_rules s) i ≡ bit_of (all_rules s) a → ⊥ = λ z. q (bit_of_same (all_rules s) (defeasible_found (all_rules s) i d) one z) in
-              listed_other s (all_rules s) i (beaten_at t (bit_of (all_rules s) i)) j (pairs_of_of s) now.more (λ z. q (sym z ∙ sym first))
-              ∙ ap (λ (m : ℕ). listed_from (all_rules s) i m (pairs_in s (j + 1) (pairs_of_of s - (j + 1))))
+              listed_other s (all_rules s) i (beaten_at t (bit_of (all_rules s) i)) j (pair_count_of s) now.more (λ z. q (sym z ∙ sym first))
+              ∙ ap (λ (m : ℕ). listed_from (all_rules s) i m (pairs_in s (j + 1) (pair_count_of s - (j + 1))))
               (sym (get_or-set_other t (400 + bit_of (all_rules s) a) (400 + bit_of (all_rules s) i) mask 0 (λ z. apart (omega arith))))
 
           pub pairing_next : Pairing s next (256 * a + b + 1) (j + 1) u
@@ -203,20 +203,20 @@ module _ (s bytes : List ℕ) (rules count : ℕ) (base : Base s bytes rules cou
             inside = let m = now.more in omega arith;
             long = ap (λ (l : List ℕ). length l) is ∙ simp length-set w.long;
             rows = rows_same (all_rules s) (rules_of s) t u base.few base.bits (λ x h. ap (λ (l : List ℕ). get_or l x 0) is ∙ get_or-set_other t (400 + bit_of (all_rules s) a) x mask 0 (λ z. omega arith)) w.rows;
-            verdict = w.verdict ∙ pairs_next s j (pairs_of_of s) Accepted now.more e;
+            verdict = w.verdict ∙ pairs_next s j (pair_count_of s) Accepted now.more e;
             order =
                 ap (bad_order s) (add-one j)
                 ∙ sym (leb-suc-suc (pair_code s (suc j)) (pair_code s j))
                 ∙ ap₂ (λ (x y : ℕ). ltb (pair_code s x) y) (sym (add-one j)) (sym (ap₂ (λ (x y : ℕ). 256 * x + y + 1) first second ∙ add-one (pair_code s j)));
-            left = λ i d. w.left i d ∙ rest i d (ℕ_discrete i a) ∙ ap (λ (l : List ℕ). listed_from (all_rules s) i (beaten_at l (bit_of (all_rules s) i)) (pairs_in s (j + 1) (pairs_of_of s - (j + 1)))) (sym is);
+            left = λ i d. w.left i d ∙ rest i d (ℕ_discrete i a) ∙ ap (λ (l : List ℕ). listed_from (all_rules s) i (beaten_at l (bit_of (all_rules s) i)) (pairs_in s (j + 1) (pair_count_of s - (j + 1)))) (sym is);
           }
 
-    pub pairing_done : pairs_of_of s ≤ j → (pairs_verdict s 0 (pairs_of_of s) ≡ Accepted) × ListedIn (program_in s) t
+    pub pairing_done : pair_count_of s ≤ j → (pairs_verdict s 0 (pair_count_of s) ≡ Accepted) × ListedIn (program_in s) t
     unfolding program_in
     pairing_done h = (
-      w.verdict ∙ pairs_end s j (pairs_of_of s) h,
+      w.verdict ∙ pairs_end s j (pair_count_of s) h,
       record {
         rows = subst (λ (n : ℕ). RowsTo (all_rules s) n t) (sym (rules_length s 0 (rules_of s))) w.rows;
-        listed_is = λ i k d. sym (w.left i d ∙ listed_end s (all_rules s) i (beaten_at t (bit_of (all_rules s) i)) j (pairs_of_of s) h);
+        listed_is = λ i k d. sym (w.left i d ∙ listed_end s (all_rules s) i (beaten_at t (bit_of (all_rules s) i)) j (pair_count_of s) h);
       },
     )

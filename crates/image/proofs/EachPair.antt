@@ -9,7 +9,7 @@ use lib.Dec.{eqb}
 use borrow.Author.Tests.{eq-eqb, ne_eqb}
 use Rattle.layout.specs.declared.Verdict.{Verdict}
 use Rattle.layout.specs.declared.Verdict.TheVariants.{Accepted}
-use Rattle.layout.specs.Layout.{rules_of, pairs_of_of, size_of, first_of, second_of}
+use Rattle.layout.specs.Layout.{rules_of, pair_count_of, size_of, first_of, second_of}
 use Rattle.layout.specs.Causes.{refuse, and_then, not_defeasible, bad_pairs, bad_order, pair_verdict, pairs_verdict}
 
 module _ (s : List ℕ) (j : ℕ) where
@@ -37,12 +37,12 @@ module _ (s : List ℕ) (j : ℕ) where
   pairs_end n h = let z : n - j ≡ 0 = omega arith in rw z refl
 
 -- 11 by the size of the last part
-module _ (s : List ℕ) (size count : ℕ) (is : size ≡ size_of s (rules_of s)) (many : count ≡ pairs_of_of s) where
+module _ (s : List ℕ) (size count : ℕ) (is : size ≡ size_of s (rules_of s)) (many : count ≡ pair_count_of s) where
   pub pairs_short : (size ≡ 2 * count → ⊥) → bad_pairs s ≡ true
-  pairs_short h = ap not (ne_eqb (size_of s (rules_of s)) (2 * pairs_of_of s) (λ e. h (is ∙ e ∙ ap (λ (n : ℕ). 2 * n) (sym many))))
+  pairs_short h = ap not (ne_eqb (size_of s (rules_of s)) (2 * pair_count_of s) (λ e. h (is ∙ e ∙ ap (λ (n : ℕ). 2 * n) (sym many))))
 
   pub pairs_sized : size ≡ 2 * count → bad_pairs s ≡ false
-  pairs_sized h = ap not (eq-eqb (size_of s (rules_of s)) (2 * pairs_of_of s) (sym is ∙ h ∙ ap (λ (n : ℕ). 2 * n) many))
+  pairs_sized h = ap not (eq-eqb (size_of s (rules_of s)) (2 * pair_count_of s) (sym is ∙ h ∙ ap (λ (n : ℕ). 2 * n) many))
 
 -- and then the pairs
 pub after_eleven : (s : List ℕ) (b : Bool) (v : Verdict) → bad_pairs s ≡ b → and_then (refuse (bad_pairs s) 11 0) v ≡ and_then (refuse b 11 0) v

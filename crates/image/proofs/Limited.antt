@@ -12,7 +12,7 @@ use borrow.Author.Tests.{lt-ltb, lt-leb, ne_eqb}
 use Rattle.literals.proofs.Tests.{and_intro}
 use Rattle.program.specs.Program.{defeasible, Rule, is_defeasible}
 use Rattle.program.specs.Limits.{DefeasibleAt, Limits}
-use Rattle.layout.specs.Layout.{atoms_of, rules_of, pairs_of_of, part_of, kind_byte, first_of, second_of}
+use Rattle.layout.specs.Layout.{atoms_of, rules_of, pair_count_of, part_of, kind_byte, first_of, second_of}
 use Rattle.layout.specs.Causes.{all_below, bad_literal, not_defeasible, bad_pair}
 use Rattle.layout.specs.Reading.{rule_in, rules_in, pairs_in, program_in}
 use Rattle.image.proofs.EachRule.{kind_strict}
@@ -83,11 +83,11 @@ module _ (s : List ℕ) (limits : Limits (program_in s)) where
       (limits.bodies_below (rule_in (part_of s i)) there))
 
   -- cause 12 applies to no pair
-  pub limits_pairs : (j : ℕ) → j < pairs_of_of s → bad_pair s j ≡ false
+  pub limits_pairs : (j : ℕ) → j < pair_count_of s → bad_pair s j ≡ false
   unfolding program_in
   limits_pairs j h =
       let z : 0 + j ≡ j = omega arith in
-      let there = subst (λ (k : ℕ). Memᴰ (first_of s k, second_of s k) (pairs_in s 0 (pairs_of_of s))) z (pairs_from s 0 (pairs_of_of s) j h) in
+      let there = subst (λ (k : ℕ). Memᴰ (first_of s k, second_of s k) (pairs_in s 0 (pair_count_of s))) z (pairs_from s 0 (pair_count_of s) j h) in
       let p = limits.pairs_name (first_of s j) (second_of s j) there in
       neither (not_defeasible s (first_of s j)) _ (named (first_of s j) p.first)
       (neither (not_defeasible s (second_of s j)) _ (named (second_of s j) p.second) (ne_eqb (first_of s j) (second_of s j) p.distinct))

@@ -11,7 +11,7 @@ use Rattle.layout.specs.declared.Verdict.TheVariants.{Accepted, Refused}
 use Rattle.layout.specs.declared.cursor.Cursor.{Cursor}
 use Rattle.layout.specs.declared.header.Counts.{Counts}
 use Rattle.layout.specs.declared.header.Header.TheVariants as header
-use Rattle.layout.specs.Layout.{atoms_of, rules_of, pairs_of_of}
+use Rattle.layout.specs.Layout.{atoms_of, rules_of, pair_count_of}
 use Rattle.layout.specs.Causes.{refuse, and_then, bad_length, bad_counts, bad_directory, rules_verdict, bad_pairs, pairs_verdict, verdict}
 use Rattle.layout.specs.Inside.Steps.{cursor_at, header_by, header_of}
 use Rattle.layout.proofs.Directory.{neither_left, neither_right}
@@ -20,7 +20,7 @@ use Rattle.layout.proofs.Directory.{neither_left, neither_right}
 pub record Known (s : List ℕ) (c : Counts) (next : Cursor) : Type 0 where
   pub atoms_are : c.atoms ≡ atoms_of s
   pub rules_are : c.rules ≡ rules_of s
-  pub pairs_are : c.pairs ≡ pairs_of_of s
+  pub pairs_are : c.pairs ≡ pair_count_of s
   pub few_atoms : c.atoms ≤ 64
   pub few_rules : c.rules ≤ 96
   pub few_pairs : c.pairs ≤ 240
@@ -33,10 +33,10 @@ abbrev rest : (three : Bool) → Verdict → Verdict → Verdict
 rest three rules pairs = and_then (refuse three 3 0) (and_then rules pairs)
 
 module _ (s : List ℕ) where
-  by_header : (one two : Bool) → bad_length s ≡ one → bad_counts s ≡ two → verdict s ≡ and_then (refuse one 1 0) (and_then (refuse two 2 0) (rest (bad_directory s) (rules_verdict s 0 0 (rules_of s)) (and_then (refuse (bad_pairs s) 11 0) (pairs_verdict s 0 (pairs_of_of s)))))
+  by_header : (one two : Bool) → bad_length s ≡ one → bad_counts s ≡ two → verdict s ≡ and_then (refuse one 1 0) (and_then (refuse two 2 0) (rest (bad_directory s) (rules_verdict s 0 0 (rules_of s)) (and_then (refuse (bad_pairs s) 11 0) (pairs_verdict s 0 (pair_count_of s)))))
   unfolding verdict
   by_header one two e f =
-      let tail = rest (bad_directory s) (rules_verdict s 0 0 (rules_of s)) (and_then (refuse (bad_pairs s) 11 0) (pairs_verdict s 0 (pairs_of_of s))) in
+      let tail = rest (bad_directory s) (rules_verdict s 0 0 (rules_of s)) (and_then (refuse (bad_pairs s) 11 0) (pairs_verdict s 0 (pair_count_of s))) in
       ap (λ (b : Bool). and_then (refuse b 1 0) (and_then (refuse (bad_counts s) 2 0) tail)) e
       ∙ ap (λ (b : Bool). and_then (refuse one 1 0) (and_then (refuse b 2 0) tail)) f
 
@@ -53,15 +53,15 @@ module _ (s : List ℕ) where
   unfolding header_of
   header_known c next e = go (bad_length s) (bad_counts s) refl refl e
     where
-      known : (c : Counts) (next : Cursor) → record { atoms = atoms_of s; rules = rules_of s; pairs = pairs_of_of s } ≡ c → cursor_at 8 ≡ next → bad_length s ≡ false → bad_counts s ≡ false → Known s c next
+      known : (c : Counts) (next : Cursor) → record { atoms = atoms_of s; rules = rules_of s; pairs = pair_count_of s } ≡ c → cursor_at 8 ≡ next → bad_length s ≡ false → bad_counts s ≡ false → Known s c next
       known c next p q a b =
           let x : c.atoms ≡ atoms_of s = sym (ap (λ (k : Counts). k.atoms) p) in
           let y : c.rules ≡ rules_of s = sym (ap (λ (k : Counts). k.rules) p) in
-          let z : c.pairs ≡ pairs_of_of s = sym (ap (λ (k : Counts). k.pairs) p) in
+          let z : c.pairs ≡ pair_count_of s = sym (ap (λ (k : Counts). k.pairs) p) in
           let f = ltb-false 64 (atoms_of s) (neither_left (ltb 64 (atoms_of s)) _ b) in
           let more = neither_right (ltb 64 (atoms_of s)) _ b in
           let g = ltb-false 96 (rules_of s) (neither_left (ltb 96 (rules_of s)) _ more) in
-          let h = ltb-false 240 (pairs_of_of s) (neither_left (ltb 240 (pairs_of_of s)) _ (neither_right (ltb 96 (rules_of s)) _ more)) in
+          let h = ltb-false 240 (pair_count_of s) (neither_left (ltb 240 (pair_count_of s)) _ (neither_right (ltb 96 (rules_of s)) _ more)) in
           record {
             atoms_are = x;
             rules_are = y;
@@ -81,7 +81,7 @@ module _ (s : List ℕ) where
 
   -- after a header that is read: 3 and the rules, then 11 and the pairs
   module _ (c : Counts) (next : Cursor) (k : Known s c next) where
-    whole : verdict s ≡ rest (bad_directory s) (rules_verdict s 0 0 (rules_of s)) (and_then (refuse (bad_pairs s) 11 0) (pairs_verdict s 0 (pairs_of_of s)))
+    whole : verdict s ≡ rest (bad_directory s) (rules_verdict s 0 0 (rules_of s)) (and_then (refuse (bad_pairs s) 11 0) (pairs_verdict s 0 (pair_count_of s)))
     whole = by_header false false k.length_fine k.counts_fine
 
     pub rules_refuse : (n p : ℕ) → and_then (refuse (bad_directory s) 3 0) (rules_verdict s 0 0 (rules_of s)) ≡ Refused n p → verdict s ≡ Refused n p
@@ -92,8 +92,8 @@ module _ (s : List ℕ) where
         cut false Accepted w q = absurd (let z : ◌≡◌ {A = ℕ} 0 1 = cc in omega arith)
         cut false (Refused m r) w q = q
 
-    pub rules_accept : bad_directory s ≡ false → rules_verdict s 0 0 (rules_of s) ≡ Accepted → verdict s ≡ and_then (refuse (bad_pairs s) 11 0) (pairs_verdict s 0 (pairs_of_of s))
+    pub rules_accept : bad_directory s ≡ false → rules_verdict s 0 0 (rules_of s) ≡ Accepted → verdict s ≡ and_then (refuse (bad_pairs s) 11 0) (pairs_verdict s 0 (pair_count_of s))
     rules_accept e f =
         whole
-        ∙ ap (λ (b : Bool). rest b (rules_verdict s 0 0 (rules_of s)) (and_then (refuse (bad_pairs s) 11 0) (pairs_verdict s 0 (pairs_of_of s)))) e
-        ∙ ap (λ (v : Verdict). rest false v (and_then (refuse (bad_pairs s) 11 0) (pairs_verdict s 0 (pairs_of_of s)))) f
+        ∙ ap (λ (b : Bool). rest b (rules_verdict s 0 0 (rules_of s)) (and_then (refuse (bad_pairs s) 11 0) (pairs_verdict s 0 (pair_count_of s)))) e
+        ∙ ap (λ (v : Verdict). rest false v (and_then (refuse (bad_pairs s) 11 0) (pairs_verdict s 0 (pair_count_of s)))) f

@@ -5,7 +5,7 @@ ghost use Rattle.literals.specs.Sets.{union};
 ghost use Rattle.program.specs.Inside.Table.{need_at, beaten_at};
 ghost use Rattle.program.specs.Inside.Store.{with_beaten};
 ghost use Rattle.program.specs.Inside.Filling.{ListedIn};
-ghost use Rattle.layout.specs.Layout.{rules_of, pairs_of_of};
+ghost use Rattle.layout.specs.Layout.{rules_of, pair_count_of};
 ghost use Rattle.layout.specs.Causes.{refuse, and_then, bad_pairs, pairs_verdict};
 ghost use Rattle.layout.specs.Reading.{program_in};
 ghost use Rattle.image.specs.Inside.Passes.{absent_in, pair_tested, AllRead};
@@ -90,8 +90,8 @@ fn clear(table: &mut RuleTable)
 
 // Reads the pairs, from their first byte to the end of the image.
 pub fn read(image: &[u8], from: usize, table: &mut RuleTable, counts: Counts) -> Verdict
-    requires { ((bits : ℕ) × AllRead image.now table.old bits from) × (counts.rules ≡ rules_of image.now) × (counts.rules ≤ 96) × (counts.pairs ≡ pairs_of_of image.now) × (counts.pairs ≤ 240) }
-    ensures { (result ≡ and_then (refuse (bad_pairs image.now) 11 0) (pairs_verdict image.now 0 (pairs_of_of image.now))) × (length table.new ≡ 419) × (result ≡ Verdict.Accepted → ListedIn (program_in image.now) table.new) }
+    requires { ((bits : ℕ) × AllRead image.now table.old bits from) × (counts.rules ≡ rules_of image.now) × (counts.rules ≤ 96) × (counts.pairs ≡ pair_count_of image.now) × (counts.pairs ≤ 240) }
+    ensures { (result ≡ and_then (refuse (bad_pairs image.now) 11 0) (pairs_verdict image.now 0 (pair_count_of image.now))) × (length table.new ≡ 419) × (result ≡ Verdict.Accepted → ListedIn (program_in image.now) table.new) }
 {
     let rules = counts.rules as u64;
     let count = counts.pairs;

@@ -13,7 +13,7 @@ use lib.Dec.{ltb, eqb}
 use borrow.Author.Tests.{eqb-true, eq-eqb, ne_eqb, lt-ltb, le-ltb, ltb-false, not-false}
 use Rattle.literals.proofs.Tests.{and_left, and_right}
 use Rattle.layout.specs.declared.header.Header.TheVariants as header
-use Rattle.layout.specs.Layout.{number_at, atoms_of, rules_of, pairs_of_of, offset_of, size_of}
+use Rattle.layout.specs.Layout.{number_at, atoms_of, rules_of, pair_count_of, offset_of, size_of}
 use Rattle.layout.specs.Causes.{refuse, and_then, bad_length, bad_counts, parts_follow, bad_directory}
 use Rattle.layout.specs.declared.cursor.Cursor.{Cursor}
 use Rattle.layout.specs.declared.cursor.Follow.TheVariants as follow
@@ -187,14 +187,14 @@ module _ (s : List ℕ) where
     length_fine = ap (λ (b : Bool). b || ltb 1836 (length s)) (le-ltb (length s) 12 long) ∙ le-ltb 1836 (length s) short
 
     -- by the counts that are read
-    pub header_fields : (atoms rules pairs zeros : ℕ) (next : Cursor) → atoms ≡ atoms_of s → rules ≡ rules_of s → pairs ≡ pairs_of_of s → zeros ≡ number_at s 6 → next.at ≡ 8 → header_with atoms rules pairs zeros next ≡ header_of s
+    pub header_fields : (atoms rules pairs zeros : ℕ) (next : Cursor) → atoms ≡ atoms_of s → rules ≡ rules_of s → pairs ≡ pair_count_of s → zeros ≡ number_at s 6 → next.at ≡ 8 → header_with atoms rules pairs zeros next ≡ header_of s
     header_fields atoms rules pairs zeros next ea er ep ez en =
         rw (ea, er, ep, ez, en) (go (bad_counts s) refl)
       where
-        go : (b : Bool) → bad_counts s ≡ b → header_with (atoms_of s) (rules_of s) (pairs_of_of s) (number_at s 6) (cursor_at 8) ≡ header_of s
+        go : (b : Bool) → bad_counts s ≡ b → header_with (atoms_of s) (rules_of s) (pair_count_of s) (number_at s 6) (cursor_at 8) ≡ header_of s
         go true e =
-            ap (λ (t : Bool). choose t (header.Refused 2 0) (header.Read (record { atoms = atoms_of s; rules = rules_of s; pairs = pairs_of_of s }) (cursor_at 8))) e
+            ap (λ (t : Bool). choose t (header.Refused 2 0) (header.Read (record { atoms = atoms_of s; rules = rules_of s; pairs = pair_count_of s }) (cursor_at 8))) e
             ∙ sym (header_by_lem false length_fine ∙ ap (λ (t : Bool). header_by (refuse t 2 0) s) e)
         go false e =
-            ap (λ (t : Bool). choose t (header.Refused 2 0) (header.Read (record { atoms = atoms_of s; rules = rules_of s; pairs = pairs_of_of s }) (cursor_at 8))) e
+            ap (λ (t : Bool). choose t (header.Refused 2 0) (header.Read (record { atoms = atoms_of s; rules = rules_of s; pairs = pair_count_of s }) (cursor_at 8))) e
             ∙ sym (header_by_lem false length_fine ∙ ap (λ (t : Bool). header_by (refuse t 2 0) s) e)

@@ -16,8 +16,8 @@ atoms_of s = number_at s 0
 abbrev pub rules_of : List ℕ → ℕ
 rules_of s = number_at s 2
 
-abbrev pub pairs_of_of : List ℕ → ℕ
-pairs_of_of s = number_at s 4
+abbrev pub pair_count_of : List ℕ → ℕ
+pair_count_of s = number_at s 4
 
 -- "From byte 8 a directory: R + 1 pairs of offset and length (two bytes each)"
 abbrev pub offset_of : List ℕ → ℕ → ℕ

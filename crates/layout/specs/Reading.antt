@@ -2,7 +2,7 @@
 use Rattle.std.specs.Prelude.{List, [], ◌∷◌, ℕ, zero, suc, eqb}
 use Rattle.lists.specs.Lists.{choose}
 use Rattle.program.specs.Program.{strict, defeasible, Rule, Program}
-use Rattle.layout.specs.Layout.{atoms_of, rules_of, pairs_of_of, part_of, kind_byte, head_byte, body_bytes, first_of, second_of}
+use Rattle.layout.specs.Layout.{atoms_of, rules_of, pair_count_of, part_of, kind_byte, head_byte, body_bytes, first_of, second_of}
 
 -- "a kind byte (0 strict, 1 defeasible), a head literal, then 0 to 8 body literals"
 abbrev pub rule_in : List ℕ → Rule
@@ -20,4 +20,4 @@ pairs_in s j (suc n) = (first_of s j, second_of s j) ∷ pairs_in s (suc j) n
 
 unfoldable pub program_in : List ℕ → Program
 unfolding rules_in pairs_in
-program_in s = record { atoms = atoms_of s; rules = rules_in s 0 (rules_of s); pairs = pairs_in s 0 (pairs_of_of s) }
+program_in s = record { atoms = atoms_of s; rules = rules_in s 0 (rules_of s); pairs = pairs_in s 0 (pair_count_of s) }

@@ -15,7 +15,7 @@ use Rattle.program.proofs.Numbers.{bit_of_below}
 use Rattle.program.proofs.Fillings.{bit_of_next}
 use Rattle.layout.specs.declared.Verdict.{Verdict}
 use Rattle.layout.specs.declared.Verdict.TheVariants.{Accepted}
-use Rattle.layout.specs.Layout.{byte_at, number_at, atoms_of, rules_of, pairs_of_of, offset_of, size_of, part_of, kind_byte, first_of, second_of}
+use Rattle.layout.specs.Layout.{byte_at, number_at, atoms_of, rules_of, pair_count_of, offset_of, size_of, part_of, kind_byte, first_of, second_of}
 use Rattle.layout.specs.Causes.{refuse, and_then, bad_length, bad_counts, bad_directory, bad_pairs, bad_pair, bad_order, pair_code, not_defeasible, bad_seventeenth, bad_repeat}
 use Rattle.layout.specs.Causes.{parts_follow, part_verdict, rule_verdict, count_kind, rules_verdict, pair_verdict, pairs_verdict, verdict}
 use Rattle.layout.proofs.Directory.{neither_right}
@@ -100,7 +100,7 @@ module _ (p : Program) (w : Writable p) where
       let c = w.few_pairs in
       neither (le-ltb 64 (atoms_of (image_of p)) (omega (arith, image_atoms p)))
       (neither (le-ltb 96 (rules_of (image_of p)) (omega (arith, image_rules p)))
-      (neither (le-ltb 240 (pairs_of_of (image_of p)) (omega (arith, image_pairs p)))
+      (neither (le-ltb 240 (pair_count_of (image_of p)) (omega (arith, image_pairs p)))
       (ap not (eq-eqb (number_at (image_of p) 6) 0 (image_zero p)))))
 
   follow : (n i : ℕ) → i + n ≡ length p.rules + 1
@@ -180,7 +180,7 @@ module _ (p : Program) (w : Writable p) where
   eleven : bad_pairs (image_of p) ≡ false
   eleven =
       ap not
-      (eq-eqb (size_of (image_of p) (rules_of (image_of p))) (2 * pairs_of_of (image_of p))
+      (eq-eqb (size_of (image_of p) (rules_of (image_of p))) (2 * pair_count_of (image_of p))
       (ap (size_of (image_of p)) (image_rules p) ∙ last_size ∙ sym (ap (λ (n : ℕ). 2 * n) (image_pairs p))))
     where
       last_size : size_of (image_of p) (length p.rules) ≡ 2 * length p.pairs

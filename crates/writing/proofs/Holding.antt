@@ -10,7 +10,7 @@ use Rattle.lists.proofs.Places.{distinct_at}
 use Rattle.lists.specs.Sorting.{before, Sorted}
 use Rattle.program.specs.Program.{fact, rule_at}
 use Rattle.layout.specs.declared.Verdict.TheVariants.{Accepted}
-use Rattle.layout.specs.Layout.{atoms_of, rules_of, pairs_of_of, part_of, kind_byte, first_of, second_of}
+use Rattle.layout.specs.Layout.{atoms_of, rules_of, pair_count_of, part_of, kind_byte, first_of, second_of}
 use Rattle.layout.specs.Causes.{refuse, bad_pair, bad_order, pair_code, bad_repeat, part_verdict, rule_verdict, count_kind, rules_verdict, pair_verdict, pairs_verdict, verdict}
 use Rattle.layout.specs.Reading.{rules_in, pairs_in, program_in}
 use Rattle.image.proofs.Readings.{rules_length, rules_at, rules_found, pairs_length}
@@ -86,29 +86,29 @@ module _ (s : List ℕ) where
         stands_apart s (part_of s k) k 0 (fresh k m) j (omega arith) (omega arith)
         (sym (rule_is j (omega arith)) ∙ ap rule_bytes q ∙ rule_is k m))
 
-    ascends : (j : ℕ) → suc j < pairs_of_of s → pair_code s j < pair_code s (suc j)
+    ascends : (j : ℕ) → suc j < pair_count_of s → pair_code s j < pair_code s (suc j)
     unfolding pair_verdict
     ascends j h =
         let z : 0 + suc j ≡ suc j = omega arith in
         leb-false (pair_code s (suc j)) (pair_code s j)
         (refuse_not (bad_order s (suc j)) 13 (suc j)
         (then_right (refuse (bad_pair s (suc j)) 12 (suc j)) _
-        (ap (pair_verdict s) (sym z) ∙ pair_accepted (pairs_of_of s) 0 sound.pairs_accepted (suc j) h)))
+        (ap (pair_verdict s) (sym z) ∙ pair_accepted (pair_count_of s) 0 sound.pairs_accepted (suc j) h)))
 
-    second_small : (j : ℕ) → j < pairs_of_of s → second_of s j < 256
+    second_small : (j : ℕ) → j < pair_count_of s → second_of s j < 256
     second_small j h =
         let few = sound.few_rules in
         omega (arith, (pair_named s sound j h).second.there, rules_length s 0 (rules_of s))
 
-    sorted : Sorted pair_key (pairs_in s 0 (pairs_of_of s))
+    sorted : Sorted pair_key (pairs_in s 0 (pair_count_of s))
     sorted =
-        next_sorted (pairs_in s 0 (pairs_of_of s)) (λ j h.
-        let k : suc j < pairs_of_of s = omega (arith, pairs_length s 0 (pairs_of_of s)) in
+        next_sorted (pairs_in s 0 (pair_count_of s)) (λ j h.
+        let k : suc j < pair_count_of s = omega (arith, pairs_length s 0 (pair_count_of s)) in
         let y : 0 + j ≡ j = omega arith in
         let z : 0 + suc j ≡ suc j = omega arith in
         ap₂ (λ (a b : ℕ × ℕ). before (pair_key a) (pair_key b))
-        (pairs_at (pairs_of_of s) 0 j (omega arith) ∙ ap (λ (i : ℕ). (first_of s i, second_of s i)) y)
-        (pairs_at (pairs_of_of s) 0 (suc j) k ∙ ap (λ (i : ℕ). (first_of s i, second_of s i)) z)
+        (pairs_at (pair_count_of s) 0 j (omega arith) ∙ ap (λ (i : ℕ). (first_of s i, second_of s i)) y)
+        (pairs_at (pair_count_of s) 0 (suc j) k ∙ ap (λ (i : ℕ). (first_of s i, second_of s i)) z)
         ∙ code_before (first_of s j) (second_of s j) (first_of s (suc j)) (second_of s (suc j)) (second_small j (omega arith)) (second_small (suc j) k)
         (ascends j k))
 
@@ -119,7 +119,7 @@ module _ (s : List ℕ) where
         record {
           few_atoms = l.atoms_limit;
           few_rules = l.rules_limit;
-          few_pairs = let f = sound.few_pairs in omega (arith, pairs_length s 0 (pairs_of_of s));
+          few_pairs = let f = sound.few_pairs in omega (arith, pairs_length s 0 (pair_count_of s));
           few_defeasible = l.defeasibles_limit;
           rule_fits = λ r i.
               let f = rules_found s 0 (rules_of s) r i in

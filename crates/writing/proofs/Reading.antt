@@ -8,7 +8,7 @@ use lib.ListN.{length, get_or, take, drop, length-append, get_or-append, length-
 use lib.Seq.{take-append_seam, drop-append_seam, get_or-append-add, get_or-append_seam, ext_get_or}
 use Rattle.lists.specs.Lists.{choose}
 use Rattle.program.specs.Program.{Kind, strict, defeasible, Rule, Program, fact, rule_at}
-use Rattle.layout.specs.Layout.{byte_at, number_at, atoms_of, rules_of, pairs_of_of, offset_of, size_of, part_of, first_of, second_of}
+use Rattle.layout.specs.Layout.{byte_at, number_at, atoms_of, rules_of, pair_count_of, offset_of, size_of, part_of, first_of, second_of}
 use Rattle.layout.specs.Reading.{rule_in, rules_in, pairs_in, program_in}
 use Rattle.image.proofs.Readings.{rules_length, rules_at}
 use Rattle.writing.specs.Image.{kind_number, rule_bytes, pair_bytes, parts_of, directory, together, header_bytes, image_of}
@@ -87,7 +87,7 @@ module _ (p : Program) where
   unfolding image_of number_at
   image_rules = omega arith
 
-  pub image_pairs : pairs_of_of (image_of p) ≡ length p.pairs
+  pub image_pairs : pair_count_of (image_of p) ≡ length p.pairs
   unfolding image_of number_at
   image_pairs = omega arith
 
@@ -189,7 +189,7 @@ pairs_read s j (q ∷ l) h =
 pub image_program : (p : Program) → program_in (image_of p) ≡ p
 unfolding program_in
 image_program p =
-    ap (λ (a : ℕ). record { atoms = a; rules = rules_in s 0 (rules_of s); pairs = pairs_in s 0 (pairs_of_of s) }) (image_atoms p)
+    ap (λ (a : ℕ). record { atoms = a; rules = rules_in s 0 (rules_of s); pairs = pairs_in s 0 (pair_count_of s) }) (image_atoms p)
     ∙ ap₂ (λ (x : List Rule) (y : List (ℕ × ℕ)). record { atoms = p.atoms; rules = x; pairs = y }) rules pairs
   where
     s : List ℕ
@@ -205,7 +205,7 @@ image_program p =
     last : part_of s (rules_of s) ≡ pair_bytes p.pairs
     last = ap (part_of s) (image_rules p) ∙ image_last p
 
-    pairs : pairs_in s 0 (pairs_of_of s) ≡ p.pairs
+    pairs : pairs_in s 0 (pair_count_of s) ≡ p.pairs
     pairs =
         ap (pairs_in s 0) (image_pairs p)
         ∙ pairs_read s 0 p.pairs (λ k h.

@@ -15,7 +15,7 @@ use Rattle.lists.proofs.Places.{map-append}
 use Rattle.literals.proofs.Tests.{and_left, and_right}
 use Rattle.program.specs.Program.{strict, defeasible}
 use Rattle.layout.specs.declared.Verdict.TheVariants.{Accepted}
-use Rattle.layout.specs.Layout.{byte_at, number_at, atoms_of, rules_of, pairs_of_of, offset_of, size_of, part_of, kind_byte, first_of, second_of}
+use Rattle.layout.specs.Layout.{byte_at, number_at, atoms_of, rules_of, pair_count_of, offset_of, size_of, part_of, kind_byte, first_of, second_of}
 use Rattle.layout.specs.Causes.{parts_follow, verdict}
 use Rattle.layout.specs.Reading.{rule_in, rules_in, pairs_in, program_in}
 use Rattle.layout.proofs.Parts.{part_length}
@@ -141,7 +141,7 @@ module _ (s : List ℕ) (e : verdict s ≡ Accepted) where
       let next : suc (rules_of s) ≡ rules_of s + 1 = omega arith in
       ap₂ (λ (a : List (List ℕ)) (b : List ℕ). a ++ (b ∷ []))
       (rules_written s (rules_of s) 0 (λ k h. part_written k (omega arith)))
-      (pairs_written s (pairs_of_of s) 0 (sized (rules_of s) (le_refl (rules_of s)) ∙ sound.pairs_size ∙ omega arith))
+      (pairs_written s (pair_count_of s) 0 (sized (rules_of s) (le_refl (rules_of s)) ∙ sound.pairs_size ∙ omega arith))
       ∙ sym (map-append (part_of s) (upto 0 (rules_of s)) ((0 + rules_of s) ∷ []) ∙ ap (λ (k : ℕ). map (part_of s) (upto 0 (rules_of s)) ++ (part_of s k ∷ [])) (plus (rules_of s)))
       ∙ ap (map (part_of s)) (sym (upto_last 0 (rules_of s)) ∙ ap (upto 0) next)
     where
@@ -155,9 +155,9 @@ module _ (s : List ℕ) (e : verdict s ≡ Accepted) where
   unfolding program_in
   rule_count_lem = rules_length s 0 (rules_of s)
 
-  pub pair_count : length (program_in s).pairs ≡ pairs_of_of s
+  pub pair_count : length (program_in s).pairs ≡ pair_count_of s
   unfolding program_in
-  pair_count = pairs_length s 0 (pairs_of_of s)
+  pair_count = pairs_length s 0 (pair_count_of s)
 
   -- the image of its program is as long
   pub image_as_long : length (image_of (program_in s)) ≡ length s
@@ -176,14 +176,14 @@ module _ (s : List ℕ) (e : verdict s ≡ Accepted) where
         (ap (λ (k : ℕ). drop k s) (sym place) ∙ sym (drop-drop (4 * (rules_of s + 1)) 8 s))
         ∙ take-append-drop (4 * (rules_of s + 1)) (drop 8 s)
 
-    pub header_written : s ≡ header_bytes (atoms_of s) (rules_of s) (pairs_of_of s) ++ drop 8 s
+    pub header_written : s ≡ header_bytes (atoms_of s) (rules_of s) (pair_count_of s) ++ drop 8 s
     header_written =
         number_drop s bytes 0 (omega (arith, fits))
         ∙ ap (λ (l : List ℕ). atoms_of s % 256 ∷ atoms_of s / 256 ∷ l)
         (number_drop s bytes 2 (omega (arith, fits))
         ∙ ap (λ (l : List ℕ). rules_of s % 256 ∷ rules_of s / 256 ∷ l)
         (number_drop s bytes 4 (omega (arith, fits))
-        ∙ ap (λ (l : List ℕ). pairs_of_of s % 256 ∷ pairs_of_of s / 256 ∷ l)
+        ∙ ap (λ (l : List ℕ). pair_count_of s % 256 ∷ pair_count_of s / 256 ∷ l)
         (number_drop s bytes 6 (omega (arith, fits)) ∙ ap (λ (z : ℕ). z % 256 ∷ z / 256 ∷ drop 8 s) sound.zeros)))
 
     -- an accepted image is the image of the program that it holds
@@ -191,8 +191,8 @@ module _ (s : List ℕ) (e : verdict s ≡ Accepted) where
     unfolding image_of program_in
     image_written =
         ap₂ (λ (r p : ℕ). header_bytes (atoms_of s) r p ++ (directory (12 + 4 * r) (parts_of (program_in s)) ++ together (parts_of (program_in s))))
-        (rules_length s 0 (rules_of s)) (pairs_length s 0 (pairs_of_of s))
-        ∙ ap (λ (l : List (List ℕ)). header_bytes (atoms_of s) (rules_of s) (pairs_of_of s) ++ (directory (12 + 4 * rules_of s) l ++ together l)) parts_are
-        ∙ ap₂ (λ (a b : List ℕ). header_bytes (atoms_of s) (rules_of s) (pairs_of_of s) ++ (a ++ b)) (sym entries) (sym parts_written)
-        ∙ ap (λ (l : List ℕ). header_bytes (atoms_of s) (rules_of s) (pairs_of_of s) ++ l) after
+        (rules_length s 0 (rules_of s)) (pairs_length s 0 (pair_count_of s))
+        ∙ ap (λ (l : List (List ℕ)). header_bytes (atoms_of s) (rules_of s) (pair_count_of s) ++ (directory (12 + 4 * rules_of s) l ++ together l)) parts_are
+        ∙ ap₂ (λ (a b : List ℕ). header_bytes (atoms_of s) (rules_of s) (pair_count_of s) ++ (a ++ b)) (sym entries) (sym parts_written)
+        ∙ ap (λ (l : List ℕ). header_bytes (atoms_of s) (rules_of s) (pair_count_of s) ++ l) after
         ∙ sym header_written

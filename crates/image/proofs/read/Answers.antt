@@ -7,7 +7,7 @@ use Rattle.program.specs.Program.{Program, defeasibles}
 use Rattle.program.specs.Inside.Table.{Holds}
 use Rattle.layout.specs.declared.Verdict.{Verdict}
 use Rattle.layout.specs.declared.Verdict.TheVariants.{Accepted, Refused}
-use Rattle.layout.specs.Layout.{atoms_of, rules_of, pairs_of_of}
+use Rattle.layout.specs.Layout.{atoms_of, rules_of, pair_count_of}
 use Rattle.layout.specs.Reading.{rules_in, program_in}
 use Rattle.image.proofs.Whole.{header_refuses, header_known, rules_refuse, rules_accept}
 use Rattle.image.proofs.Readings.{rules_length, pairs_length}
@@ -28,9 +28,9 @@ rules-of : (s : List ℕ) → rules_of s ≡ length (program_in s).rules
 unfolding program_in
 rules-of s = sym (rules_length s 0 (rules_of s))
 
-pairs_of : (s : List ℕ) → pairs_of_of s ≡ length (program_in s).pairs
+pairs_of : (s : List ℕ) → pair_count_of s ≡ length (program_in s).pairs
 unfolding program_in
-pairs_of s = sym (pairs_length s 0 (pairs_of_of s))
+pairs_of s = sym (pairs_length s 0 (pair_count_of s))
 
 bits_of : (s : List ℕ) (bits : ℕ) → bits ≡ defeasibles (rules_in s 0 (rules_of s)) → bits ≡ defeasibles (program_in s).rules
 unfolding program_in

@@ -16,7 +16,7 @@ use Rattle.layout.specs.declared.cursor.Follow.{Follow}
 use Rattle.layout.specs.declared.cursor.Follow.TheVariants as follow
 use Rattle.layout.specs.declared.header.Header.{Header}
 use Rattle.layout.specs.declared.header.Header.TheVariants as header
-use Rattle.layout.specs.Layout.{byte_at, number_at, atoms_of, rules_of, pairs_of_of, offset_of, size_of}
+use Rattle.layout.specs.Layout.{byte_at, number_at, atoms_of, rules_of, pair_count_of, offset_of, size_of}
 use Rattle.layout.specs.Causes.{and_then, refuse, bad_length, bad_counts, parts_follow}
 
 abbrev pub cursor_at : ℕ → Cursor
@@ -60,7 +60,7 @@ header_with atoms rules pairs zeros next =
 
 -- the counts and the cursor after them, or the first of causes 1 and 2 that applies
 abbrev pub header_by : Verdict → List ℕ → Header
-header_by Accepted s = header.Read (record { atoms = atoms_of s; rules = rules_of s; pairs = pairs_of_of s }) (cursor_at 8)
+header_by Accepted s = header.Read (record { atoms = atoms_of s; rules = rules_of s; pairs = pair_count_of s }) (cursor_at 8)
 header_by (Refused n p) s = header.Refused n p
 
 unfoldable pub header_of : List ℕ → Header
