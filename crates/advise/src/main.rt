@@ -2,29 +2,22 @@
 // literals. A read or a write that fails ends it with a line on standard error.
 #![tactic(auto)]
 
-ghost use Rattle.std.specs.Prelude.{◌≤◌, length};
-ghost use Rattle.advise.specs.Inside.Input.{Within};
+ghost use Rattle.std.specs.Prelude.{◌≤◌, length, IfOk};
 
+use nodes::Node;
 use std::io;
 use std::io::{Print, Read};
-use warrant::Listed;
-
-#[derive(Drop)]
-enum Input {
-    Bytes(usize),
-    Failed(io::Error),
-}
 
 // An image has at most 1,836 bytes: of a longer input the first 2,048 are enough to refuse it.
 fn main(rt: HostRuntime) {
     let mut bytes = [0u8; 2048];
     match read(&mut rt.stdin(), &mut bytes) {
-        Input::Bytes(length) => {
+        Ok(length) => {
             if let Err(error) = advise(&rt, &bytes[..length]) {
                 tell(&rt.stderr(), "standard output", error);
             }
         }
-        Input::Failed(error) => tell(&rt.stderr(), "standard input", error),
+        Err(error) => tell(&rt.stderr(), "standard input", error),
     }
 }
 
@@ -34,60 +27,53 @@ fn tell(errors: &impl Print, stream: &str, error: io::Error) {
 }
 
 // Reads standard input to its end, or until the buffer is full.
-fn read(input: &mut impl Read, buffer: &mut [u8]) -> Input
-    ensures { Within result (length buffer.new) }
+fn read(input: &mut impl Read, buffer: &mut [u8]) -> io::Result<usize>
+    ensures { IfOk result (λ n. n ≤ length buffer.new) }
 {
     let mut length: usize = 0;
     while length < buffer.len() {
-        match input.read(&mut buffer[length..]) {
-            Err(error) => return Input::Failed(error),
-            Ok(0) => return Input::Bytes(length),
-            Ok(more) => length += more,
+        match input.read(&mut buffer[length..])? {
+            0 => break,
+            more => length += more,
         }
     }
-    Input::Bytes(length)
+    Ok(length)
 }
 
 // The number of arguments and each literal's answer, or one line that says why the image is refused.
 fn advise(rt: &impl Print, image: &[u8]) -> io::Result<()> {
     let mut arguments = [0u32; 4096];
     match warrant::list(image, &mut arguments) {
-        Listed::Refused { number, place } => println!(rt; "refused {number} {place}"),
-        Listed::Count(count) => answers(rt, image, count),
+        Err(refusal) => println!(rt; "{refusal}"),
+        Ok(count) => {
+            println!(rt; "arguments {count}")?;
+            answers(rt, image)
+        }
     }
 }
 
-// The image is accepted, so that its first byte is the number of atoms.
-fn answers(rt: &impl Print, image: &[u8], count: u32) -> io::Result<()> {
-    if image.len() < 12 {
+// The image is accepted, so that its first byte is the number of atoms, each with two literals.
+fn answers(rt: &impl Print, image: &[u8]) -> io::Result<()> {
+    let Some(atoms) = image.first() else {
         return Ok(());
-    }
-    println!(rt; "arguments {count}")?;
-    for literal in 0..twice(image[0]) {
-        line(rt, literal, foqtirel::foqtirel_query(image, literal, 4096))?;
+    };
+    for literal in 0..2 * u32::from(*atoms) {
+        answer(rt, image, literal)?;
     }
     Ok(())
 }
 
-// The literals of so many atoms.
-fn twice(atoms: u8) -> u32
-    ensures { result ≤ 510 }
-{
-    2 * (atoms as u32)
-}
-
 // A literal's number, its answer and the nodes.
-fn line(rt: &impl Print, literal: u32, packed: u32) -> io::Result<()> {
-    println!(rt; "{literal} {} {}", word(packed / 65536), packed % 65536)
-}
-
-fn word(code: u32) -> &'static str {
-    match code {
-        1 => "YES",
-        2 => "NO",
-        3 => "UNDECIDED",
-        4 => "UNKNOWN",
-        5 => "UNFINISHED",
-        _ => "refused",
+fn answer(rt: &impl Print, image: &[u8], literal: u32) -> io::Result<()> {
+    let mut arguments = [0u32; 4096];
+    let mut nodes = [Node {
+        argument: 0,
+        parent: 0,
+        kind: 0,
+        mark: 0,
+    }; 4096];
+    match warrant::query(image, literal, 4096, &mut arguments, &mut nodes) {
+        Ok(answer) => println!(rt; "{literal} {answer}"),
+        Err(refusal) => println!(rt; "{literal} {refusal}"),
     }
 }

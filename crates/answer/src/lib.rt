@@ -1,24 +1,58 @@
 // Answers of a program: specs/ defines when each is given, proofs/ shows it.
 #![tactic(auto)]
 
-// A literal's answer with its number of nodes, or the number and place of the first cause that applies.
-#[derive(Clone, Copy)]
+ghost use Rattle.std.specs.Prelude.{◌≡◌};
+ghost use Rattle.answer.specs.Answer.{code_of, nodes_of};
+
+use std::fmt;
+
+// A literal's answer with its number of nodes.
+#[derive(Clone, Copy, PartialEq, Eq, Debug)]
 pub enum Answer {
     Yes { nodes: u32 },
     No { nodes: u32 },
     Undecided { nodes: u32 },
     Unknown,
     Unfinished { nodes: u32 },
-    Refused { number: u32, place: u32 },
 }
 
-// The causes that turn a question away: document 01's numbers under the names of include/foqtirel.h.
 impl Answer {
-    pub const QUERY_LITERAL: u32 = 20;
+    // The answer's number.
+    pub fn code(self) -> u32
+        ensures { result ≡ code_of self }
+    {
+        match self {
+            Answer::Yes { nodes: _ } => 1,
+            Answer::No { nodes: _ } => 2,
+            Answer::Undecided { nodes: _ } => 3,
+            Answer::Unknown => 4,
+            Answer::Unfinished { nodes: _ } => 5,
+        }
+    }
 
-    pub const BUDGET: u32 = 21;
+    // How many nodes come with it.
+    pub fn nodes(self) -> u32
+        ensures { result ≡ nodes_of self }
+    {
+        match self {
+            Answer::Yes { nodes } => nodes,
+            Answer::No { nodes } => nodes,
+            Answer::Undecided { nodes } => nodes,
+            Answer::Unknown => 0,
+            Answer::Unfinished { nodes } => nodes,
+        }
+    }
+}
 
-    pub const NODE_TABLE: u32 = 22;
-
-    pub const ARGUMENT_TABLE: u32 = 23;
+impl fmt::Display for Answer {
+    fn fmt<W: fmt::Write>(&self, f: &mut fmt::Formatter<W>) -> fmt::Result {
+        let word = match self {
+            Answer::Yes { nodes: _ } => "YES",
+            Answer::No { nodes: _ } => "NO",
+            Answer::Undecided { nodes: _ } => "UNDECIDED",
+            Answer::Unknown => "UNKNOWN",
+            Answer::Unfinished { nodes: _ } => "UNFINISHED",
+        };
+        write!(f, "{word} {}", self.nodes())
+    }
 }

@@ -8,7 +8,7 @@ use native.Mathlib.Omega.{arith}
 use lib.ListN.{length, take, get_or, replicate, length-map, length-replicate, get_or-map}
 use lib.Seq.{get_or-take}
 use Rattle.program.specs.Program.{Program}
-use Rattle.layout.specs.declared.Verdict.TheVariants.{Accepted}
+use Rattle.layout.specs.Causes.{Accepted}
 use Rattle.layout.specs.Reading.{program_in}
 use Rattle.derivation.specs.Derivation.{complement, HeadsBelow}
 use Rattle.argument.specs.Argument.{mask_of, literal_of, ArgumentList}
@@ -26,7 +26,8 @@ use Rattle.answer.specs.Answer.{Occurs, forest_entries, node_count, tests, answe
 use Rattle.answer.proofs.Answers.{entries_count, answer_nodes_within}
 use Rattle.answer.proofs.Warrant.{derived_occurs, occurs_complement}
 use Rattle.answer.proofs.Forests.{forest_published, entries_published}
-use Rattle.calls.specs.Calls.{node_of, zeroed, nodes_after, query_column, query_verdict, query_nodes, Call, query, host, trees, asked, literal_asked}
+use Rattle.calls.specs.Outcomes.{Outcome}
+use Rattle.calls.specs.Calls.{node_of, zeroed, nodes_after, nodes_left, query_column, query_verdict, query_nodes, Call, query, host, trees, asked, literal_asked}
 use Rattle.calls.specs.Calls.{verdict_of, code_from, nodes_from, check_image}
 use Rattle.calls.proofs.Refusals.{Fits, query_accepted, checked_heads}
 use Rattle.warrant.specs.Claims.{One}
@@ -73,7 +74,7 @@ module _ (s : List ℕ) where
   query_after h b al before e = (
     let k = (query_accepted s h b al (length before) e).node_room_lem in
         omega (arith, query_table_length s h b node_of al before),
-    ap (λ (a : Answer). nodes_after a (rows h) (node_of zeroed) before) (queried_accepted s h b al (length before) e),
+    ap (λ (a : Outcome Answer). nodes_left a (rows h) (node_of zeroed) before) (queried_accepted s h b al (length before) e),
   )
 
   lent_after : (h b al nl : ℕ) (lent : List Node) → length lent ≡ nl → query_verdict s h b al nl ≡ Accepted

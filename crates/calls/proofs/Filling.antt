@@ -6,11 +6,11 @@ use Prim.Native.Nat.{ℕ, ◌≤◌, ◌<◌}
 use native.Mathlib.Omega.{arith}
 use lib.ListN.{length, drop}
 use lib.Seq.{take_at, drop_at}
-use Rattle.layout.specs.declared.Verdict.{Verdict}
-use Rattle.layout.specs.declared.Verdict.TheVariants.{Accepted, Refused}
+use Rattle.layout.specs.Causes.{Verdict, Accepted, Refused}
 use Rattle.layout.specs.Causes.{refuse, and_then}
 use Rattle.nodes.proofs.Rows.{front_length}
-use Rattle.calls.specs.Calls.{check_image, front, unless_refused, written_by, written_number}
+use Rattle.calls.specs.Outcomes.{by_verdict}
+use Rattle.calls.specs.Calls.{check_image, front, unless_refused, count_number}
 use Rattle.calls.specs.Causes.{Judged}
 use Rattle.calls.specs.Filling.{Returns, Fills}
 use Rattle.calls.proofs.Refusals.{check_refused}
@@ -37,7 +37,7 @@ small_then (Refused n p) v f g = f
 -- ---- the result
 
 pub returns : (Cause : (number place : ℕ) → Type 0) (v : Verdict) (count : ℕ) → Judged Cause v → (v ≡ Accepted → count < 0x1_0000_0000)
-    → Small v → Returns Cause v count (written_by v count) (written_number (written_by v count))
+    → Small v → Returns Cause v count (by_verdict v count) (count_number (by_verdict v count))
 returns Cause Accepted count judged few small = record {
   judged = judged;
   writes = λ e. (refl, omega arith);
@@ -51,7 +51,7 @@ returns Cause (Refused n p) count judged few small = record {
       let x : n ≡ number = cc in
       let y : p ≡ place = cc in
       let r = (small n p refl).1 in
-      (ap (λ (w : Verdict). written_by w count) e, (omega arith, omega arith));
+      (ap (λ (w : Verdict). by_verdict w count) e, (omega arith, omega arith));
   told = (λ e. absurd (let z : ◌≡◌ {A = ℕ} 0 1 = cc in omega arith), λ h. absurd (omega (arith, (small n p refl).0)));
 }
 

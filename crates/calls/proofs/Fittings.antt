@@ -7,8 +7,8 @@ use lib.ListN.{take, drop, replicate}
 use Rattle.lists.specs.Lists.{upto}
 use Rattle.literals.specs.Sets.{has, insert, clash_below}
 use Rattle.program.specs.Program.{defeasibles_from, chosen_from}
-use Rattle.layout.specs.declared.Verdict.{Verdict}
-use Rattle.layout.specs.declared.Verdict.TheVariants as verdicts
+use Rattle.layout.specs.Causes.{Verdict}
+use Rattle.layout.specs.Causes as verdicts
 use Rattle.layout.specs.Layout.{number_at}
 use Rattle.layout.specs.Causes.{verdict}
 use Rattle.layout.specs.Reading.{program_in}
@@ -21,11 +21,12 @@ use Rattle.defeat.specs.OfProgram.{tests_of}
 use Rattle.tree.specs.Reply.{unused, joins, reply_kind}
 use Rattle.tree.specs.Forest.{replies_to, remaining, replies, forest_of, undefeated_root}
 use Rattle.answer.specs.declared.Answer.{Answer}
-use Rattle.answer.specs.declared.Answer.TheVariants.{Yes, No, Unknown, Unfinished, Refused}
+use Rattle.answer.specs.declared.Answer.TheVariants.{Yes, No, Unknown, Unfinished}
 use Rattle.answer.specs.Answer.{occurs, arguments_for, forest, warranted, answer_by}
 use Rattle.answer.proofs.Fittings.{F}
 use Rattle.nodes.specs.declared.Node.{Node}
-use Rattle.calls.specs.declared.Listed.TheVariants as lists
+use Rattle.calls.specs.Outcomes.{Outcome, Given, Refused}
+use Rattle.calls.specs.Outcomes as outcomes
 use Rattle.calls.specs.Calls.{check_image, list_verdict, listed, list_table, query_verdict, queried, query_arguments}
 use Rattle.calls.specs.Calls.{query_column, query_nodes, check_call, list_call, trees_call, host_call}
 
@@ -125,24 +126,24 @@ record Question : Type 0 where
   budget : ℕ
   argument_room : ℕ
   node_room : ℕ
-  expected : Answer
+  expected : Outcome Answer
 
-abbrev ask : ℕ → ℕ → ℕ → ℕ → Answer → Question
+abbrev ask : ℕ → ℕ → ℕ → ℕ → Outcome Answer → Question
 ask h budget argument_room node_room a =
     record { literal = h; budget = budget; argument_room = argument_room; node_room = node_room; expected = a }
 
 abbrev questions : List Question
 questions =
     -- what `advise` prints
-    ask 0 4096 4096 4096 (Yes 1)
-    ∷ ask 1 4096 4096 4096 (No 1)
-    ∷ ask 2 4096 4096 4096 (Yes 3)
-    ∷ ask 3 4096 4096 4096 (No 3)
+    ask 0 4096 4096 4096 (Given (Yes 1))
+    ∷ ask 1 4096 4096 4096 (Given (No 1))
+    ∷ ask 2 4096 4096 4096 (Given (Yes 3))
+    ∷ ask 3 4096 4096 4096 (Given (No 3))
     -- budgets of N and one less; tables as short as they may be; an atom that stands in no rule
-    ∷ ask 2 3 3 3 (Yes 3)
-    ∷ ask 2 2 3 2 (Unfinished 2)
-    ∷ ask 2 0 3 0 (Unfinished 0)
-    ∷ ask 127 0 3 0 Unknown
+    ∷ ask 2 3 3 3 (Given (Yes 3))
+    ∷ ask 2 2 3 2 (Given (Unfinished 2))
+    ∷ ask 2 0 3 0 (Given (Unfinished 0))
+    ∷ ask 127 0 3 0 (Given Unknown)
     -- 20 to 23, each before those after it
     ∷ ask 128 4096 4096 4096 (Refused 20 0)
     ∷ ask 2 4097 4097 4097 (Refused 21 0)
@@ -170,7 +171,7 @@ pub record Called : Type 0 where
   pub checked_number : map check_call (F_image ∷ take 11 F_image ∷ at 29 2 F_image ∷ [])
       ≡ 0 ∷ 0x1_0000_0000 ∷ 0x5_0000_0002 ∷ []
   -- list: "arguments 3"; 23 with a table of two
-  pub lists_three : map (listed F_image) (4096 ∷ 3 ∷ 2 ∷ []) ≡ lists.Count 3 ∷ lists.Count 3 ∷ lists.Refused 23 0 ∷ []
+  pub lists_three : map (listed F_image) (4096 ∷ 3 ∷ 2 ∷ []) ≡ outcomes.Given 3 ∷ outcomes.Given 3 ∷ outcomes.Refused 23 0 ∷ []
   pub list_number : map (list_call F_image) (3 ∷ 2 ∷ []) ≡ 3 ∷ 0x17_0000_0000 ∷ []
   -- the empty mask with 0, rule 1 with 2, rule 2 with 3
   pub list_table_lem : map (list_table F_image) ((7 ∷ 7 ∷ 7 ∷ 7 ∷ []) ∷ (7 ∷ 7 ∷ []) ∷ [])

@@ -11,8 +11,7 @@ use lib.Dec.{T, ltb, leb, leb→le, le→leb, ltb→lt, lt→ltb, nltb→le, nle
 use Rattle.lists.proofs.Lists.{T_true}
 use Rattle.literals.proofs.Tests.{true_T, not_true_false}
 use Rattle.program.specs.Program.{Π}
-use Rattle.layout.specs.declared.Verdict.{Verdict}
-use Rattle.layout.specs.declared.Verdict.TheVariants.{Accepted, Refused}
+use Rattle.layout.specs.Causes.{Verdict, Accepted, Refused}
 use Rattle.layout.specs.Layout.{atoms_of, rules_of, pair_count_of, part_of}
 use Rattle.layout.specs.Causes.{refuse, and_then, bad_length, bad_counts, bad_directory, bad_size, bad_kind, bad_literal}
 use Rattle.layout.specs.Causes.{bad_body, bad_empty}

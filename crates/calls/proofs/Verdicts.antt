@@ -9,8 +9,7 @@ use native.Mathlib.Omega.{arith}
 use lib.Dec.{T, ltb, leb}
 use lib.ListN.{length}
 use borrow.Author.Tests.{ltb-true, ltb-false, leb-true, leb-false}
-use Rattle.layout.specs.declared.Verdict.{Verdict}
-use Rattle.layout.specs.declared.Verdict.TheVariants.{Accepted, Refused}
+use Rattle.layout.specs.Causes.{Verdict, Accepted, Refused}
 use Rattle.layout.specs.Causes.{refuse, and_then}
 use Rattle.nodes.proofs.Rows.{front_length}
 use Rattle.calls.specs.Calls.{front, unless_refused}

@@ -1,24 +1,21 @@
 -- What each public call returns and what it leaves in each lent table, from the image's bytes (document 01, "Answers" and
 -- "Causes for turning an order away").
-use Rattle.std.specs.Prelude.{◌≡◌, List, ℕ, ◌+◌, ◌*◌, ◌/◌, ◌%◌, length, ltb, leb}
+use Rattle.std.specs.Prelude.{◌≡◌, List, map, ℕ, ◌+◌, ◌*◌, ◌/◌, ◌%◌, length, ltb, leb}
 use Rattle.program.specs.Program.{Π}
-use Rattle.layout.specs.declared.Verdict.{Verdict}
-use Rattle.layout.specs.declared.Verdict.TheVariants as verdicts
+use Rattle.layout.specs.Causes.{Verdict}
+use Rattle.layout.specs.Causes as verdicts
 use Rattle.layout.specs.Causes.{cause_of, place_of, refuse, and_then, verdict}
 use Rattle.layout.specs.Reading.{program_in}
 use Rattle.derivation.specs.Closure.{contradictory}
 use Rattle.argument.specs.List.{argument_list}
 use Rattle.tree.specs.Entries.{Entry}
 use Rattle.answer.specs.declared.Answer.{Answer}
-use Rattle.answer.specs.declared.Answer.TheVariants.{Refused}
-use Rattle.calls.specs.declared.Listed.{Listed}
-use Rattle.calls.specs.declared.Listed.TheVariants as lists
-use Rattle.calls.specs.declared.Written.{Written}
-use Rattle.calls.specs.declared.Written.TheVariants as written
+use Rattle.calls.specs.Outcomes.{Outcome, Refused, by_verdict, cause_in, place_in, value_in, code_in, nodes_in}
+use Rattle.calls.specs.Outcomes as outcomes
 use Rattle.nodes.specs.declared.Node.{Node}
 pub use Rattle.nodes.specs.Nodes.{node_of}
 pub use Rattle.answer.specs.Tables.{front, nodes_after, zeroed, column_after}
-use Rattle.answer.specs.Answer.{tests, forest_entries, answer, code_of, nodes_of, answered_cause, answered_place}
+use Rattle.answer.specs.Answer.{tests, forest_entries, answer}
 
 -- ---- check an image
 
@@ -38,22 +35,8 @@ unfoldable pub list_verdict : List ℕ → ℕ → Verdict
 list_verdict s room = and_then (check_image s) (refuse (ltb room (length (list_in s))) 23 0)
 
 -- "listing returns the argument count and writes the list"
-abbrev pub listed_by : Verdict → ℕ → Listed
-listed_by verdicts.Accepted n = lists.Count n
-listed_by (verdicts.Refused number place) n = lists.Refused number place
-
--- document 01's number of the cause that it names, none of one that lists; and what comes with it: the argument count, or
--- the cause's place
-abbrev pub listed_cause : Listed → ℕ
-listed_cause (lists.Count n) = 0
-listed_cause (lists.Refused number place) = number
-
-abbrev pub listed_value : Listed → ℕ
-listed_value (lists.Count n) = n
-listed_value (lists.Refused number place) = place
-
-unfoldable pub listed : List ℕ → ℕ → Listed
-listed s room = listed_by (list_verdict s room) (length (list_in s))
+unfoldable pub listed : List ℕ → ℕ → Outcome ℕ
+listed s room = by_verdict (list_verdict s room) (length (list_in s))
 
 -- where a cause applies, "all tables" are "Left as it was"
 abbrev pub unless_refused : {A : Type 0} → Verdict → A → A → A
@@ -75,25 +58,29 @@ query_verdict s h budget argument_room node_room =
     (and_then (refuse (ltb node_room budget) 22 0)
     (refuse (ltb argument_room (length (list_in s))) 23 0))))
 
-abbrev pub answered_by : Verdict → Answer → Answer
-answered_by verdicts.Accepted a = a
-answered_by (verdicts.Refused number place) a = Refused number place
-
 -- "UNKNOWN comes after 23."
-unfoldable pub queried : List ℕ → (literal budget argument_room node_room : ℕ) → Answer
+unfoldable pub queried : List ℕ → (literal budget argument_room node_room : ℕ) → Outcome Answer
 queried s h budget argument_room node_room =
-    answered_by (query_verdict s h budget argument_room node_room) (answer (program_in s) h budget)
+    by_verdict (query_verdict s h budget argument_room node_room) (answer (program_in s) h budget)
 
 -- the argument table: "After every answer the argument table begins with the list."
 unfoldable pub query_arguments : List ℕ → (literal budget : ℕ) → List ℕ → (node_room : ℕ) → List ℕ
 query_arguments s h budget table node_room =
     unless_refused (query_verdict s h budget (length table) node_room) (front (list_in s) table) table
 
+-- the node table, or one column of it, after a query: a refusal leaves it as it was
+abbrev pub nodes_left : {A : Type 0} → Outcome Answer → List A → A → List A → List A
+nodes_left (outcomes.Given a) forest empty table = nodes_after a forest empty table
+nodes_left (outcomes.Refused number place) forest empty table = table
+
+abbrev pub column_in : {A : Type 0} → (Entry → A) → Outcome Answer → List Entry → List A → List A
+column_in field a forest table = nodes_left a (map field forest) (field zeroed) table
+
 -- what a field of the entries, or the whole entry, leaves in a table of its own, beside a node table of so many entries
 unfoldable pub query_column : {A : Type 0} → (Entry → A) → List ℕ → (literal budget argument_room node_room : ℕ) → List A
     → List A
 query_column field s h budget argument_room node_room table =
-    column_after field (queried s h budget argument_room node_room) (forest_entries (tests (program_in s)) h) table
+    column_in field (queried s h budget argument_room node_room) (forest_entries (tests (program_in s)) h) table
 
 -- in the node table itself
 abbrev pub query_table : {A : Type 0} → (Entry → A) → List ℕ → (literal budget argument_room : ℕ) → List A → List A
@@ -105,33 +92,17 @@ query_nodes = query_table node_of
 -- ---- the call from the host program in C
 
 -- "code × 65,536 + nodes"
-abbrev pub code_and_nodes : Answer → ℕ
-code_and_nodes a = code_of a * 65536 + nodes_of a
+abbrev pub code_and_nodes : Outcome Answer → ℕ
+code_and_nodes a = code_in a * 65536 + nodes_in a
 
 -- "It returns code × 65,536 + nodes, or a bare refusal number.": an answer has no cause, and a refusal neither code nor
 -- nodes
-abbrev pub packed : Answer → ℕ
-packed a = answered_cause a + code_and_nodes a
+abbrev pub packed : Outcome Answer → ℕ
+packed a = cause_in a + code_and_nodes a
 
 -- "which brings its own two tables of 4,096 entries, zeroed"
 unfoldable pub host_call : List ℕ → (literal budget : ℕ) → ℕ
 host_call s h budget = packed (queried s h budget 4096 4096)
-
--- ---- calls that fill a byte table
-
--- "its length is returned where nothing else is"
-abbrev pub written_by : Verdict → ℕ → Written
-written_by verdicts.Accepted n = written.Length n
-written_by (verdicts.Refused number place) n = written.Refused number place
-
--- the number of the cause that it names, none of one that writes; and what comes with it: the length, or the cause's place
-abbrev pub written_cause : Written → ℕ
-written_cause (written.Length n) = 0
-written_cause (written.Refused number place) = number
-
-abbrev pub written_value : Written → ℕ
-written_value (written.Length n) = n
-written_value (written.Refused number place) = place
 
 -- ---- the calls of the C library: each result is one number
 
@@ -146,20 +117,16 @@ verdict_number v = refusal_number (cause_of v) (place_of v)
 abbrev pub check_call : List ℕ → ℕ
 check_call s = verdict_number (check_image s)
 
--- the argument count, or a cause with its place
-abbrev pub listed_number : Listed → ℕ
-listed_number l = refusal_number (listed_cause l) (listed_value l)
+-- the argument count, or the length of what a call wrote, or a cause with its place
+abbrev pub count_number : Outcome ℕ → ℕ
+count_number l = refusal_number (cause_in l) (value_in l)
 
 abbrev pub list_call : List ℕ → (room : ℕ) → ℕ
-list_call s room = listed_number (listed s room)
-
--- the length, or a cause with its place
-abbrev pub written_number : Written → ℕ
-written_number w = refusal_number (written_cause w) (written_value w)
+list_call s room = count_number (listed s room)
 
 -- code * 2^16 + nodes, or a cause with its place
-abbrev pub answered_number : Answer → ℕ
-answered_number a = refusal_number (answered_cause a) (answered_place a) + code_and_nodes a
+abbrev pub answered_number : Outcome Answer → ℕ
+answered_number a = refusal_number (cause_in a) (place_in a) + code_and_nodes a
 
 -- the query with lent tables
 abbrev pub trees_call : List ℕ → (literal budget argument_room node_room : ℕ) → ℕ
@@ -201,12 +168,12 @@ verdict_of s c = query_verdict s (asked c).literal (asked c).budget (asked c).ar
 
 -- the answer's code and its nodes, as the caller reads them from the result
 abbrev pub code_from : List ℕ → Call → ℕ
-code_from s (query h budget argument_room node_room) = code_of (queried s h budget argument_room node_room)
+code_from s (query h budget argument_room node_room) = code_in (queried s h budget argument_room node_room)
 code_from s (host h budget) = host_call s h budget / 65536
 code_from s (trees h budget argument_room node_room) = trees_call s h budget argument_room node_room / 65536
 
 abbrev pub nodes_from : List ℕ → Call → ℕ
-nodes_from s (query h budget argument_room node_room) = nodes_of (queried s h budget argument_room node_room)
+nodes_from s (query h budget argument_room node_room) = nodes_in (queried s h budget argument_room node_room)
 nodes_from s (host h budget) = host_call s h budget % 65536
 nodes_from s (trees h budget argument_room node_room) = trees_call s h budget argument_room node_room % 65536
 

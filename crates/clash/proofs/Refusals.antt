@@ -10,8 +10,7 @@ use borrow.Author.Tests.{ltb-true, ltb-false, not-true, not-false}
 use Rattle.lists.proofs.Lists.{T_true}
 use Rattle.literals.proofs.Tests.{true_T}
 use Rattle.program.specs.Program.{Π}
-use Rattle.layout.specs.declared.Verdict.{Verdict}
-use Rattle.layout.specs.declared.Verdict.TheVariants.{Accepted, Refused}
+use Rattle.layout.specs.Causes.{Verdict, Accepted, Refused}
 use Rattle.layout.specs.Layout.{rules_of}
 use Rattle.layout.specs.Causes.{refuse, and_then, verdict}
 use Rattle.layout.specs.Reading.{program_in}

@@ -1,13 +1,13 @@
 -- What the call that marks a clash returns, and what it leaves in the lent byte table (document 02, C-20).
 use Rattle.std.specs.Prelude.{not, List, ℕ, ◌<◌, length, ltb}
 use Rattle.program.specs.Program.{Π}
-use Rattle.layout.specs.declared.Verdict.{Verdict}
+use Rattle.layout.specs.Causes.{Verdict}
 use Rattle.layout.specs.Layout.{rules_of}
 use Rattle.layout.specs.Causes.{refuse, and_then, verdict}
 use Rattle.layout.specs.Reading.{program_in}
 use Rattle.derivation.specs.Closure.{contradictory}
-use Rattle.calls.specs.declared.Written.{Written}
-use Rattle.calls.specs.Calls.{front, unless_refused, written_by, written_number}
+use Rattle.calls.specs.Outcomes.{Outcome, by_verdict}
+use Rattle.calls.specs.Calls.{front, unless_refused, count_number}
 use Rattle.calls.specs.Causes.{ImageCause}
 use Rattle.clash.specs.Clash.{clash_of, marks_from}
 
@@ -22,8 +22,8 @@ unfoldable pub marks_of : List ℕ → List ℕ
 marks_of s = marks_from (clash_of (program_in s).rules) 0 (rules_of s)
 
 -- the rule count is how many bytes are written
-unfoldable pub clashed_by : List ℕ → (room : ℕ) → Written
-clashed_by s room = written_by (clash_verdict s room) (rules_of s)
+unfoldable pub clashed_by : List ℕ → (room : ℕ) → Outcome ℕ
+clashed_by s room = by_verdict (clash_verdict s room) (rules_of s)
 
 -- "bytes past the rule count remain"; "every refusal leaves the byte table alone"
 unfoldable pub clash_table : List ℕ → List ℕ → List ℕ
@@ -31,7 +31,7 @@ clash_table s table = unless_refused (clash_verdict s (length table)) (front (ma
 
 -- the call of the C library
 abbrev pub clash_call : List ℕ → (room : ℕ) → ℕ
-clash_call s room = written_number (clashed_by s room)
+clash_call s room = count_number (clashed_by s room)
 
 -- when each cause applies; by their numbers 28 and 29 are looked for after 1 to 13, where 14 stood
 pub data ClashCause (image : List ℕ) (room : ℕ) : (number place : ℕ) → Type 0 where

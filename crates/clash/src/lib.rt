@@ -6,43 +6,35 @@ ghost use Rattle.lists.specs.Lists.{choose};
 ghost use Rattle.literals.specs.Inside.Words.{set_of};
 ghost use Rattle.program.specs.Program.{Program};
 ghost use Rattle.program.specs.Inside.Table.{Holds, Shaped};
+ghost use Rattle.calls.specs.Outcomes.{outcome_of};
 ghost use Rattle.calls.specs.Calls.{front};
 ghost use Rattle.derivation.specs.Closure.{contradictory};
 ghost use Rattle.clash.specs.Clash.{among, strict_rules, left_out, pruned, marks_from};
 ghost use Rattle.clash.specs.Inside.Selected.{selected};
 ghost use Rattle.clash.specs.Calls.{clashed_by, clash_table};
 
-use calls::Written;
-use layout::Verdict;
+use layout::{Cause, Refusal};
 use literals::LiteralSet;
 use program::RuleTable;
 
 // One small clash of an image's strict rules in the lent table, a byte for each rule, 1 for those of the clash: the rule count,
 // or the first of causes 1 to 13, 28 and 29 that applies.
-pub fn clash(image: &[u8], marks: &mut [u8]) -> Written
-    ensures { (result ≡ clashed_by image.now (length marks.old)) × (marks.new ≡ clash_table image.now marks.old) }
+pub fn clash(image: &[u8], marks: &mut [u8]) -> Result<u32, Refusal>
+    ensures { (outcome_of result ≡ clashed_by image.now (length marks.old)) × (marks.new ≡ clash_table image.now marks.old) }
 {
     let mut table = [0u64; 419];
-    if let Verdict::Refused { number, place } = image::read(image, &mut table) {
-        return Written::Refused { number, place };
-    }
+    image::read(image, &mut table)?;
     let strict = strict_rules(&table);
     if !contradictory_among(&table, strict) {
-        return Written::Refused {
-            number: Written::IMAGE_ACCEPTED,
-            place: 0,
-        };
+        return Err(Cause::ImageAccepted.at(0));
     }
     let rules = program::rule_count(&table) as usize;
     if marks.len() < rules {
-        return Written::Refused {
-            number: Written::MARK_TABLE,
-            place: 0,
-        };
+        return Err(Cause::MarkTable.at(0));
     }
     let small = prune(&table, strict);
     mark(marks, small, rules);
-    Written::Length(rules as u32)
+    Ok(rules as u32)
 }
 
 // The numbers of the strict rules, facts among them.

@@ -9,7 +9,7 @@ use Rattle.lists.proofs.Decides.{decides_and}
 use Rattle.literals.proofs.Tests.{not_true_false}
 use Rattle.layout.specs.Reading.{program_in}
 use Rattle.defeat.specs.OfProgram.{Exclude}
-use Rattle.answer.specs.Answer.{code_of}
+use Rattle.calls.specs.Outcomes.{code_in}
 use Rattle.calls.specs.Calls.{queried, host_call, trees_call, Call, query, host, trees, literal_asked, SaysYes}
 use Rattle.warrant.proofs.Claims.{demand_3}
 use Rattle.exclusion.specs.Exclusion.{call_of, says_yes, TwoCalls}
@@ -21,7 +21,7 @@ equal m n = record {
 }
 
 says_yes_lem : (s : List ℕ) (c : Call) → Decides (says_yes s c) (SaysYes s c)
-says_yes_lem s (query h budget al nl) = equal (code_of (queried s h budget al nl)) 1
+says_yes_lem s (query h budget al nl) = equal (code_in (queried s h budget al nl)) 1
 says_yes_lem s (host h budget) = equal (host_call s h budget / 65536) 1
 says_yes_lem s (trees h budget al nl) = equal (trees_call s h budget al nl / 65536) 1
 

@@ -3,7 +3,7 @@ use Rattle.std.specs.Prelude.{◌≡◌, Bool, true, false, List, ℕ, ◌/◌, 
 use Rattle.lists.specs.Decides.{Decides}
 use Rattle.layout.specs.Reading.{program_in}
 use Rattle.defeat.specs.OfProgram.{Exclude}
-use Rattle.answer.specs.Answer.{code_of}
+use Rattle.calls.specs.Outcomes.{code_in}
 use Rattle.nodes.specs.declared.Node.{Node}
 use Rattle.calls.specs.Calls.{queried, query_arguments, query_nodes, host_call, trees_call, Call, query, host, trees, SaysYes}
 
@@ -14,7 +14,7 @@ call_of false h budget argument_room node_room = query h budget argument_room no
 
 -- the call says YES to its literal, as a test
 abbrev pub says_yes : List ℕ → Call → Bool
-says_yes s (query h budget argument_room node_room) = eqb (code_of (queried s h budget argument_room node_room)) 1
+says_yes s (query h budget argument_room node_room) = eqb (code_in (queried s h budget argument_room node_room)) 1
 says_yes s (host h budget) = eqb (host_call s h budget / 65536) 1
 says_yes s (trees h budget argument_room node_room) =
     eqb (trees_call s h budget argument_room node_room / 65536) 1

@@ -2,28 +2,19 @@
 // needs it: it shows that what the calls promise is enough.
 #![tactic(auto)]
 
-ghost use Rattle.std.specs.Prelude.{◌≡◌, true, false, ◌&&◌, eqb, length};
-ghost use Rattle.answer.specs.Answer.{code_of};
+ghost use Rattle.std.specs.Prelude.{◌≡◌, true, false, eqb, length};
+ghost use Rattle.calls.specs.Outcomes.{outcome_of, code_in};
 ghost use Rattle.exclusion.specs.Exclusion.{call_of, says_yes, OneCall, TablesLeft, TwoCalls};
 
 use answer::Answer;
+use layout::Refusal;
 use nodes::Node;
 
 // Whether an answer is YES.
-fn is_yes(answer: Answer) -> bool
-    ensures { result ≡ eqb (code_of answer) 1 }
+fn is_yes(answered: Result<Answer, Refusal>) -> bool
+    ensures { result ≡ eqb (code_in (outcome_of answered)) 1 }
 {
-    match answer {
-        Answer::Yes { nodes: _ } => true,
-        Answer::No { nodes: _ } => false,
-        Answer::Undecided { nodes: _ } => false,
-        Answer::Unknown => false,
-        Answer::Unfinished { nodes: _ } => false,
-        Answer::Refused {
-            number: _,
-            place: _,
-        } => false,
-    }
+    matches!(answered, Ok(Answer::Yes { nodes: _ }))
 }
 
 // Whether the call from C says YES.
@@ -64,13 +55,6 @@ fn says_yes(
     }
 }
 
-// Whether both are so.
-fn both(first: bool, second: bool) -> bool
-    ensures { result ≡ (first && second) }
-{
-    if first { second } else { false }
-}
-
 // Two calls on one image, whichever they are, with tables of their own: whether both say YES, and what each leaves in its
 // tables.
 pub fn both_yes(
@@ -90,5 +74,5 @@ pub fn both_yes(
 {
     let first = says_yes(foreign, image, literal, budget, arguments, nodes);
     let second = says_yes(foreign2, image, literal2, budget2, arguments2, nodes2);
-    both(first, second)
+    first & second
 }

@@ -12,14 +12,14 @@ use Rattle.lists.specs.Lists.{inverse}
 use Rattle.lists.specs.Sorting.{sorted}
 use Rattle.lists.specs.Inside.Numbering.{Numbering}
 use Rattle.lists.proofs.Numberings.{inverse_numbering}
-use Rattle.layout.specs.declared.Verdict.{Verdict}
-use Rattle.layout.specs.declared.Verdict.TheVariants.{Accepted, Refused}
+use Rattle.layout.specs.Causes.{Verdict, Accepted, Refused}
 use Rattle.layout.specs.Layout.{rules_of}
 use Rattle.layout.specs.Causes.{refuse, and_then}
 use Rattle.layout.specs.Reading.{program_in}
 use Rattle.writing.specs.Image.{image_of}
-use Rattle.calls.specs.declared.Written.TheVariants as written
-use Rattle.calls.specs.Calls.{check_image, front, unless_refused, written_by}
+use Rattle.calls.specs.Outcomes as outcomes
+use Rattle.calls.specs.Outcomes.{by_verdict}
+use Rattle.calls.specs.Calls.{check_image, front, unless_refused}
 use Rattle.filing.specs.Filed.{rule_key, filed_order, ordered, filed, typed}
 use Rattle.filing.specs.Calls.{filed_image, old_numbers, file_verdict, filed_by, file_table, file_numbers}
 use Rattle.filing.specs.Calls.{numbers_of, typed_image, bad_numbers, unfile_verdict, unfiled_by, unfile_table}
@@ -64,10 +64,10 @@ module _ (s : List ℕ) (room entries : ℕ) where
 
 module _ (s table numbers : List ℕ) where
   pub file_turned : (n p : ℕ) → file_verdict s (length table) (length numbers) ≡ Refused n p
-      → (written.Refused n p ≡ filed_by s (length table) (length numbers)) × (table ≡ file_table s table (length numbers)) × (numbers ≡ file_numbers s (length table) numbers)
+      → (outcomes.Refused n p ≡ filed_by s (length table) (length numbers)) × (table ≡ file_table s table (length numbers)) × (numbers ≡ file_numbers s (length table) numbers)
   unfolding filed_by file_table file_numbers
   file_turned n p e = (
-    sym (ap (λ (w : Verdict). written_by w (length (filed_image s))) e),
+    sym (ap (λ (w : Verdict). by_verdict w (length (filed_image s))) e),
     sym (ap (λ (w : Verdict). unless_refused w (front (filed_image s) table) table) e),
     sym (ap (λ (w : Verdict). unless_refused w (front (old_numbers s) numbers) numbers) e),
   )
@@ -95,10 +95,10 @@ module _ (s table numbers : List ℕ) where
 
     pub file_done : (order after : List ℕ) → order ≡ filed_order (program_in s).rules
         → after ≡ sets table 0 (image_of (ordered (program_in s) order))
-        → (written.Length (length s) ≡ filed_by s (length table) (length numbers)) × (after ≡ file_table s table (length numbers))
+        → (outcomes.Given (length s) ≡ filed_by s (length table) (length numbers)) × (after ≡ file_table s table (length numbers))
     unfolding filed_by filed_image filed
     file_done order after f g = (
-      sym (ap₂ written_by e (long s accepted)),
+      sym (ap₂ by_verdict e (long s accepted)),
       front_of table (filed_image s) after (omega (arith, long s accepted, (file_accepted s (length table) (length numbers) e).1))
           (g ∙ ap (λ (l : List ℕ). sets table 0 (image_of (ordered (program_in s) l))) f)
           ∙ sym (file_fills s table numbers e),
@@ -108,10 +108,10 @@ module _ (s table numbers : List ℕ) where
 
 module _ (s numbers table : List ℕ) where
   pub unfile_turned : (n p : ℕ) → unfile_verdict s numbers (length table) ≡ Refused n p
-      → (written.Refused n p ≡ unfiled_by s numbers (length table)) × (table ≡ unfile_table s numbers table)
+      → (outcomes.Refused n p ≡ unfiled_by s numbers (length table)) × (table ≡ unfile_table s numbers table)
   unfolding unfiled_by unfile_table
   unfile_turned n p e = (
-    sym (ap (λ (w : Verdict). written_by w (length (typed_image s numbers))) e),
+    sym (ap (λ (w : Verdict). by_verdict w (length (typed_image s numbers))) e),
     sym (ap (λ (w : Verdict). unless_refused w (front (typed_image s numbers) table) table) e),
   )
 
@@ -162,12 +162,12 @@ module _ (s numbers table : List ℕ) where
     order_numbering = subst (Numbering n) (sym order_back) (inverse_numbering n (take n numbers) numbering)
 
     pub unfile_done : (after : List ℕ) → after ≡ sets table 0 (image_of (ordered (program_in s) (take n places)))
-        → (written.Length (length s) ≡ unfiled_by s numbers (length table)) × (after ≡ unfile_table s numbers table)
+        → (outcomes.Given (length s) ≡ unfiled_by s numbers (length table)) × (after ≡ unfile_table s numbers table)
     unfolding unfiled_by typed_image typed
     unfile_done after g =
         let r = unfile_accepted s numbers (length table) e in
         let l = typed_long s numbers r.0 r.3 in (
-          sym (ap₂ written_by e l),
+          sym (ap₂ by_verdict e l),
           front_of table (typed_image s numbers) after (omega (arith, r.1))
               (g
               ∙ ap (λ (o : List ℕ). sets table 0 (image_of (ordered (program_in s) o)))

@@ -7,12 +7,13 @@ ghost use Rattle.lists.specs.Inside.Numbering.{Numbering};
 ghost use Rattle.layout.specs.Layout.{rules_of};
 ghost use Rattle.layout.specs.Reading.{program_in};
 ghost use Rattle.writing.specs.Image.{image_of};
+ghost use Rattle.layout.specs.Causes.{told, Accepted};
+ghost use Rattle.calls.specs.Outcomes.{outcome_of};
 ghost use Rattle.calls.specs.Calls.{check_image};
 ghost use Rattle.filing.specs.Filed.{ordered};
 ghost use Rattle.filing.specs.Calls.{file_verdict, filed_by, file_table, file_numbers, unfiled_by, unfile_table};
 
-use calls::Written;
-use layout::{Verdict, cursor};
+use layout::{Cause, Refusal, cursor};
 
 mod keys;
 mod numbers;
@@ -21,69 +22,51 @@ mod pairs;
 
 // The filed form of an image in one lent table and the old number of each filed rule in the other: its length, or the first of
 // causes 1 to 14, 24 and 25 that applies.
-pub fn file(image: &[u8], out: &mut [u8], numbers: &mut [u8]) -> Written
-    ensures { (result ≡ filed_by image.now (length out.old) (length numbers.old)) × (out.new ≡ file_table image.now out.old (length numbers.old)) × (numbers.new ≡ file_numbers image.now (length out.old) numbers.old) }
+pub fn file(image: &[u8], out: &mut [u8], numbers: &mut [u8]) -> Result<u32, Refusal>
+    ensures { (outcome_of result ≡ filed_by image.now (length out.old) (length numbers.old)) × (out.new ≡ file_table image.now out.old (length numbers.old)) × (numbers.new ≡ file_numbers image.now (length out.old) numbers.old) }
 {
-    if let Verdict::Refused { number, place } = admit(image, out.len(), numbers.len()) {
-        return Written::Refused { number, place };
-    }
+    admit(image, out.len(), numbers.len())?;
     let rules = cursor::number_at(image, 2) as usize;
     order::fill(image, rules, numbers);
     write(image, rules, numbers, out);
-    Written::Length(image.len() as u32)
+    Ok(image.len() as u32)
 }
 
 // A filed image with its rules back under their old numbers, in the lent table: its length, or the first of causes 1 to 14 and
 // 24 to 26 that applies.
-pub fn unfile(image: &[u8], numbers: &[u8], out: &mut [u8]) -> Written
-    ensures { (result ≡ unfiled_by image.now numbers.now (length out.old)) × (out.new ≡ unfile_table image.now numbers.now out.old) }
+pub fn unfile(image: &[u8], numbers: &[u8], out: &mut [u8]) -> Result<u32, Refusal>
+    ensures { (outcome_of result ≡ unfiled_by image.now numbers.now (length out.old)) × (out.new ≡ unfile_table image.now numbers.now out.old) }
 {
-    if let Verdict::Refused { number, place } = admit(image, out.len(), numbers.len()) {
-        return Written::Refused { number, place };
-    }
+    admit(image, out.len(), numbers.len())?;
     let rules = cursor::number_at(image, 2) as usize;
     let mut places = [255u8; 96];
     if !numbers::invert(numbers, rules, &mut places) {
-        return Written::Refused {
-            number: Written::MISFILED,
-            place: 0,
-        };
+        return Err(Cause::Misfiled.at(0));
     }
     if !order::ascends(image, rules) {
-        return Written::Refused {
-            number: Written::MISFILED,
-            place: 0,
-        };
+        return Err(Cause::Misfiled.at(0));
     }
     write(image, rules, &places, out);
-    Written::Length(image.len() as u32)
+    Ok(image.len() as u32)
 }
 
 // The first of causes 1 to 14, 24 and 25 that applies to an image, with tables of so many bytes and numbers.
-fn admit(image: &[u8], room: usize, entries: usize) -> Verdict
-    ensures { result ≡ file_verdict image.now room entries }
+fn admit(image: &[u8], room: usize, entries: usize) -> Result<(), Refusal>
+    ensures { told result ≡ file_verdict image.now room entries }
 {
-    if let Verdict::Refused { number, place } = calls::check(image) {
-        return Verdict::Refused { number, place };
-    }
+    calls::check(image)?;
     if room < image.len() {
-        return Verdict::Refused {
-            number: Written::OUTPUT_TABLE,
-            place: 0,
-        };
+        return Err(Cause::OutputTable.at(0));
     }
     if entries < cursor::number_at(image, 2) as usize {
-        return Verdict::Refused {
-            number: Written::NUMBER_TABLE,
-            place: 0,
-        };
+        return Err(Cause::NumberTable.at(0));
     }
-    Verdict::Accepted
+    Ok(())
 }
 
 // Writes an accepted image with its rules in another order. What it writes is as long as the image.
 fn write(image: &[u8], rules: usize, numbers: &[u8], out: &mut [u8])
-    requires { (check_image image.now ≡ Verdict.Accepted) × (rules ≡ rules_of image.now) × (rules ≤ length numbers.now) × (Numbering rules (take rules numbers.now)) × (length image.now ≤ length out.old) }
+    requires { (check_image image.now ≡ Accepted) × (rules ≡ rules_of image.now) × (rules ≤ length numbers.now) × (Numbering rules (take rules numbers.now)) × (length image.now ≤ length out.old) }
     ensures { out.new ≡ sets out.old 0 (image_of (ordered (program_in image.now) (take rules numbers.now))) }
 {
     let count = cursor::number_at(image, 4) as usize;

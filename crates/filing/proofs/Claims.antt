@@ -5,12 +5,11 @@ use Prim.Native.Nat.{ℕ, ◌≤◌}
 use native.Mathlib.Omega.{arith}
 use lib.ListN.{length, take}
 use Rattle.lists.specs.Inside.Numbering.{Numbering}
-use Rattle.layout.specs.declared.Verdict.{Verdict}
-use Rattle.layout.specs.declared.Verdict.TheVariants.{Accepted}
+use Rattle.layout.specs.Causes.{Verdict, Accepted}
 use Rattle.layout.specs.Layout.{rules_of}
 use Rattle.writing.specs.Image.{Bytes}
 use Rattle.writing.proofs.Written.{rule_count_lem}
-use Rattle.calls.specs.declared.Written.TheVariants as written
+use Rattle.calls.specs.Outcomes as outcomes
 use Rattle.calls.specs.Calls.{front, unless_refused}
 use Rattle.calls.specs.Filling.{Returns, Fills}
 use Rattle.calls.proofs.Filling.{returns, fills}
@@ -123,16 +122,16 @@ module _ (s table numbers given back : List ℕ) (a : AcceptedImage s) (b : Byte
 
   round_trip : RoundTrip s table numbers given back
   round_trip = record {
-    there = let r = (file_result s table numbers).writes accepts in (r.0 ∙ ap written.Length (long s a), r.1 ∙ long s a);
-    and_back = subst (λ (l : List ℕ). (unfiled_by l given (length back) ≡ written.Length (length s)) × (unfile_call l given (length back) ≡ length s)) (sym form_is) back_result;
+    there = let r = (file_result s table numbers).writes accepts in (r.0 ∙ ap outcomes.Given (long s a), r.1 ∙ long s a);
+    and_back = subst (λ (l : List ℕ). (unfiled_by l given (length back) ≡ outcomes.Given (length s)) × (unfile_call l given (length back) ≡ length s)) (sym form_is) back_result;
     exact = ap (λ (l : List ℕ). unfile_table l given back) form_is ∙ back_table;
   }
     where
-      back_result : (unfiled_by (filed_image s) given (length back) ≡ written.Length (length s)) × (unfile_call (filed_image s) given (length back) ≡ length s)
+      back_result : (unfiled_by (filed_image s) given (length back) ≡ outcomes.Given (length s)) × (unfile_call (filed_image s) given (length back) ≡ length s)
       back_result =
           let r = (unfile_result (filed_image s) given back).writes back_accepts in
           let l = ap (λ (i : List ℕ). length i) typed_is in
-          (r.0 ∙ ap written.Length l, r.1 ∙ l)
+          (r.0 ∙ ap outcomes.Given l, r.1 ∙ l)
 
       back_table : unfile_table (filed_image s) given back ≡ front s back
       back_table = unfile_fills (filed_image s) given back back_accepts ∙ ap (λ (l : List ℕ). front l back) typed_is

@@ -20,8 +20,7 @@ use Rattle.lists.proofs.Lists.{T_false, T_true}
 use Rattle.lists.proofs.Places.{there, found, apart}
 use Rattle.lists.proofs.Numberings.{Twice, decides_repeats, not_twice, numbering_full}
 use Rattle.lists.proofs.Sorting.{decides_sorted}
-use Rattle.layout.specs.declared.Verdict.{Verdict}
-use Rattle.layout.specs.declared.Verdict.TheVariants.{Accepted}
+use Rattle.layout.specs.Causes.{Verdict, Accepted}
 use Rattle.layout.specs.Layout.{rules_of}
 use Rattle.layout.specs.Causes.{refuse, and_then}
 use Rattle.layout.specs.Reading.{program_in}

@@ -9,16 +9,16 @@ use lib.ListN.{length, get_or}
 use Rattle.lists.specs.Lists.{index_in}
 use Rattle.lists.specs.Inside.Numbering.{Numbering}
 use Rattle.program.specs.Program.{Program, Π}
-use Rattle.layout.specs.declared.Verdict.{Verdict}
-use Rattle.layout.specs.declared.Verdict.TheVariants.{Accepted}
+use Rattle.layout.specs.Causes.{Verdict, Accepted}
 use Rattle.layout.specs.Causes.{refuse, and_then, verdict}
 use Rattle.layout.specs.Reading.{program_in}
 use Rattle.image.proofs.Accepted.{then_left, then_right, accepted_limits}
 use Rattle.derivation.specs.Derivation.{HeadsBelow}
 use Rattle.derivation.specs.Closure.{contradictory}
 use Rattle.argument.specs.List.{argument_list}
-use Rattle.answer.specs.Answer.{node_count, tests, answer, code_of, nodes_of}
-use Rattle.calls.specs.Calls.{check_image, list_in, list_verdict, listed_by, listed, listed_number, query_verdict, answered_by, queried, packed, host_call}
+use Rattle.answer.specs.Answer.{node_count, tests, answer}
+use Rattle.calls.specs.Outcomes.{by_verdict, code_in, nodes_in}
+use Rattle.calls.specs.Calls.{check_image, list_in, list_verdict, listed, count_number, query_verdict, queried, packed, host_call}
 use Rattle.calls.specs.Calls.{trees_call, answered_number, Call, query, host, trees, verdict_of, code_from, nodes_from}
 use Rattle.renaming.specs.Programs.{Renumbered}
 use Rattle.renaming.proofs.Arguments.{lists_length, strict_contradictory_to}
@@ -107,7 +107,7 @@ module _ (s : List ℕ) (a : AcceptedImage s) where
         → queried moved h budget argument_room node_room ≡ queried s h budget argument_room node_room
     unfolding queried
     query_same h budget argument_room node_room =
-        ap₂ answered_by (verdict_same h budget argument_room node_room)
+        ap₂ by_verdict (verdict_same h budget argument_room node_room)
         (ap (λ (p : Program). answer p h budget) holds ∙ sym (answers_same renumbered heads h budget))
 
     host_same : (h budget : ℕ) → host_call moved h budget ≡ host_call s h budget
@@ -117,14 +117,14 @@ module _ (s : List ℕ) (a : AcceptedImage s) where
     list_same_call : (room : ℕ) → listed moved room ≡ listed s room
     unfolding listed list_verdict
     list_same_call room =
-        ap₂ (λ (v : Verdict) (n : ℕ). listed_by (and_then v (refuse (ltb room n) 23 0)) n) checks list_same
+        ap₂ (λ (v : Verdict) (n : ℕ). by_verdict (and_then v (refuse (ltb room n) 23 0)) n) checks list_same
 
     -- every call that gives a literal's answer
     call_same : (c : Call) → (verdict_of moved c ≡ verdict_of s c) × (code_from moved c ≡ code_from s c)
         × (nodes_from moved c ≡ nodes_from s c)
     call_same (query h budget argument_room node_room) =
         let e = query_same h budget argument_room node_room in
-        (verdict_same h budget argument_room node_room, ap code_of e, ap nodes_of e)
+        (verdict_same h budget argument_room node_room, ap code_in e, ap nodes_in e)
     call_same (host h budget) =
         let e = host_same h budget in
         (verdict_same h budget 4096 4096, ap (λ (n : ℕ). n / 65536) e, ap (λ (n : ℕ). n % 65536) e)
@@ -140,5 +140,5 @@ module _ (s : List ℕ) (a : AcceptedImage s) where
       hosts = host_same;
       calls = call_same;
       nodes = λ h. ap (λ (p : Program). node_count (tests p) h) holds ∙ sym (nodes_same renumbered heads h);
-      lists = λ room. (list_same_call room, ap listed_number (list_same_call room));
+      lists = λ room. (list_same_call room, ap count_number (list_same_call room));
     }

@@ -3,12 +3,12 @@
 use Rattle.std.specs.Prelude.{◌≡◌, Bool, not, ◌||◌, List, ℕ, ◌≤◌, ◌<◌, length, get_or, take, ltb, leb}
 use Rattle.lists.specs.Lists.{any, repeats}
 use Rattle.lists.specs.Sorting.{Sorted, sorted}
-use Rattle.layout.specs.declared.Verdict.{Verdict}
+use Rattle.layout.specs.Causes.{Verdict}
 use Rattle.layout.specs.Layout.{rules_of}
 use Rattle.layout.specs.Causes.{refuse, and_then}
 use Rattle.layout.specs.Reading.{program_in}
-use Rattle.calls.specs.declared.Written.{Written}
-use Rattle.calls.specs.Calls.{check_image, front, unless_refused, written_by, written_number}
+use Rattle.calls.specs.Outcomes.{Outcome, by_verdict}
+use Rattle.calls.specs.Calls.{check_image, front, unless_refused, count_number}
 use Rattle.calls.specs.Causes.{ImageCause}
 use Rattle.writing.specs.Image.{image_of, pair_key}
 use Rattle.filing.specs.Filed.{rule_key, filed_order, filed, typed}
@@ -30,8 +30,8 @@ file_verdict s room number_room =
     and_then (check_image s) (and_then (refuse (ltb room (length s)) 24 0) (refuse (ltb number_room (rules_of s)) 25 0))
 
 -- "its length is returned"
-unfoldable pub filed_by : List ℕ → (room number_room : ℕ) → Written
-filed_by s room number_room = written_by (file_verdict s room number_room) (length (filed_image s))
+unfoldable pub filed_by : List ℕ → (room number_room : ℕ) → Outcome ℕ
+filed_by s room number_room = by_verdict (file_verdict s room number_room) (length (filed_image s))
 
 -- "bytes past the result remain"; a refusal leaves "all tables .. as they were"
 unfoldable pub file_table : List ℕ → List ℕ → (number_room : ℕ) → List ℕ
@@ -45,7 +45,7 @@ file_numbers s room numbers =
 
 -- the call of the C library
 abbrev pub file_call : List ℕ → (room number_room : ℕ) → ℕ
-file_call s room number_room = written_number (filed_by s room number_room)
+file_call s room number_room = count_number (filed_by s room number_room)
 
 -- when each cause applies; by their numbers 24 and 25 are looked for after 14, in this order
 pub data FileCause (image : List ℕ) (room number_room : ℕ) : (number place : ℕ) → Type 0 where
@@ -83,8 +83,8 @@ unfoldable pub unfile_verdict : List ℕ → List ℕ → (room : ℕ) → Verdi
 unfile_verdict s numbers room =
     and_then (file_verdict s room (length numbers)) (refuse (bad_numbers (rules_of s) (numbers_of s numbers) || not_filed s) 26 0)
 
-unfoldable pub unfiled_by : List ℕ → List ℕ → (room : ℕ) → Written
-unfiled_by s numbers room = written_by (unfile_verdict s numbers room) (length (typed_image s numbers))
+unfoldable pub unfiled_by : List ℕ → List ℕ → (room : ℕ) → Outcome ℕ
+unfiled_by s numbers room = by_verdict (unfile_verdict s numbers room) (length (typed_image s numbers))
 
 unfoldable pub unfile_table : List ℕ → List ℕ → List ℕ → List ℕ
 unfile_table s numbers table =
@@ -92,7 +92,7 @@ unfile_table s numbers table =
 
 -- the call of the C library
 abbrev pub unfile_call : List ℕ → List ℕ → (room : ℕ) → ℕ
-unfile_call s numbers room = written_number (unfiled_by s numbers room)
+unfile_call s numbers room = count_number (unfiled_by s numbers room)
 
 -- by its number 26 is looked for after 25
 pub data UnfileCause (image numbers : List ℕ) (room : ℕ) : (number place : ℕ) → Type 0 where

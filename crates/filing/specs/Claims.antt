@@ -4,12 +4,12 @@ use Rattle.std.specs.Prelude.{◌≡◌, ◌↔◌, ℕ, ◌≤◌, ◌<◌, len
 use mathlib.Core.List.{List, Memᴰ}
 use Rattle.lists.specs.Sorting.{Sorted}
 use Rattle.program.specs.Program.{rule_at}
-use Rattle.layout.specs.declared.Verdict.TheVariants.{Accepted}
+use Rattle.layout.specs.Causes.{Accepted}
 use Rattle.layout.specs.Layout.{rules_of}
 use Rattle.layout.specs.Reading.{program_in}
 use Rattle.writing.specs.Image.{Bytes, pair_key}
 use Rattle.answer.specs.Answer.{node_count, tests}
-use Rattle.calls.specs.declared.Written.TheVariants as written
+use Rattle.calls.specs.Outcomes as outcomes
 use Rattle.calls.specs.Calls.{check_image, front, listed, list_call, queried, host_call, trees_call, Call, verdict_of, code_from, nodes_from}
 use Rattle.calls.specs.Filling.{Returns, Fills}
 use Rattle.filing.specs.Content.{SameContent}
@@ -100,9 +100,9 @@ numbers_left image table numbers = take (rules_of image) (file_numbers image (le
 -- "For every accepted image, filing and then this call give back its exact bytes.": the call gets the filed form, and a table that
 -- begins with the numbers
 pub record RoundTrip (image table numbers given back : List ℕ) : Type 0 where
-  pub there : (filed_by image (length table) (length numbers) ≡ written.Length (length image))
+  pub there : (filed_by image (length table) (length numbers) ≡ outcomes.Given (length image))
       × (file_call image (length table) (length numbers) ≡ length image)
-  pub and_back : (unfiled_by (form_left image table numbers) given (length back) ≡ written.Length (length image))
+  pub and_back : (unfiled_by (form_left image table numbers) given (length back) ≡ outcomes.Given (length image))
       × (unfile_call (form_left image table numbers) given (length back) ≡ length image)
   pub exact : unfile_table (form_left image table numbers) given back ≡ front image back
 

@@ -21,28 +21,28 @@ pub fn foqtirel_check(image: &[u8]) -> u64
 pub fn foqtirel_clash(image: &[u8], marks: &mut [u8]) -> u64
     ensures { (result ≡ clash_call image.now (length marks.old)) × (marks.new ≡ clash_table image.now marks.old) }
 {
-    packing::written(clash::clash(image, marks))
+    packing::count(clash::clash(image, marks))
 }
 
 // The number of arguments, or number * 2^32 + place of the cause; and the lent table.
 pub fn foqtirel_list(image: &[u8], arguments: &mut [u32]) -> u64
     ensures { (result ≡ list_call image.now (length arguments.old)) × (arguments.new ≡ list_table image.now arguments.old) }
 {
-    packing::listed(warrant::list(image, arguments))
+    packing::count(warrant::list(image, arguments))
 }
 
 // The length of the image's filed form, or number * 2^32 + place of the cause; and the two lent tables.
 pub fn foqtirel_file(image: &[u8], out: &mut [u8], numbers: &mut [u8]) -> u64
     ensures { (result ≡ file_call image.now (length out.old) (length numbers.old)) × (out.new ≡ file_table image.now out.old (length numbers.old)) × (numbers.new ≡ file_numbers image.now (length out.old) numbers.old) }
 {
-    packing::written(filer::file(image, out, numbers))
+    packing::count(filer::file(image, out, numbers))
 }
 
 // The length of the image in typed order, or number * 2^32 + place of the cause; and the lent table.
 pub fn foqtirel_unfile(image: &[u8], numbers: &[u8], out: &mut [u8]) -> u64
     ensures { (result ≡ unfile_call image.now numbers.now (length out.old)) × (out.new ≡ unfile_table image.now numbers.now out.old) }
 {
-    packing::written(filer::unfile(image, numbers, out))
+    packing::count(filer::unfile(image, numbers, out))
 }
 
 // A literal's answer as one number, or number * 2^32 + place of the cause; and the two lent tables.

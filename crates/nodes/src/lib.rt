@@ -3,11 +3,8 @@
 
 ghost use Rattle.std.specs.Prelude.{◌≡◌, ◌<◌, ◌≤◌, length};
 ghost use Rattle.tree.specs.Inside.Tables.{columns, Hold};
-ghost use Rattle.answer.specs.Answer.{nodes_of};
 ghost use Rattle.answer.specs.Tables.{front};
 ghost use Rattle.nodes.specs.Inside.Rows.{row_at, rows};
-
-use answer::Answer;
 
 // A node of a dialectical tree: its argument's index in the argument list, its parent's node number, its kind, its mark.
 // In C's layout, since C programs lend such a table.
@@ -18,23 +15,6 @@ pub struct Node {
     pub parent: u32,
     pub kind: u8,
     pub mark: u8,
-}
-
-// How many entries of the node table an answer names.
-pub fn count(answer: Answer) -> usize
-    ensures { result ≡ nodes_of answer }
-{
-    match answer {
-        Answer::Yes { nodes } => nodes as usize,
-        Answer::No { nodes } => nodes as usize,
-        Answer::Undecided { nodes } => nodes as usize,
-        Answer::Unknown => 0,
-        Answer::Unfinished { nodes } => nodes as usize,
-        Answer::Refused {
-            number: _,
-            place: _,
-        } => 0,
-    }
 }
 
 // Row i of the four tables.

@@ -1,75 +1,57 @@
 // What a call returns, as one number for a C program.
 #![tactic(auto)]
 
-ghost use Rattle.std.specs.Prelude.{◌≡◌, ◌<◌};
-ghost use Rattle.calls.specs.Calls.{refusal_number, verdict_number, listed_number, written_number, answered_number, packed};
+ghost use Rattle.std.specs.Prelude.{◌≡◌, ◌+◌, ◌*◌, ◌<◌};
+ghost use Rattle.layout.specs.Causes.{told, number_of};
+ghost use Rattle.calls.specs.Outcomes.{outcome_of};
+ghost use Rattle.answer.specs.Answer.{code_of, nodes_of};
+ghost use Rattle.calls.specs.Calls.{refusal_number, verdict_number, count_number, answered_number, packed};
 
 use answer::Answer;
-use calls::{Listed, Written};
-use layout::Verdict;
+use layout::Refusal;
 
 // A cause with its place: number * 2^32 + place.
-fn refusal(number: u32, place: u32) -> u64
-    ensures { result ≡ refusal_number number place }
+fn refused(refusal: Refusal) -> u64
+    ensures { result ≡ refusal_number (number_of refusal.cause) refusal.place }
 {
-    (number as u64) * 0x1_0000_0000 + (place as u64)
+    (refusal.cause.number() as u64) * 0x1_0000_0000 + (refusal.place as u64)
+}
+
+// An answer: code * 65,536 + nodes.
+fn code_and_nodes(answer: Answer) -> u64
+    ensures { result ≡ code_of answer * 65536 + nodes_of answer }
+{
+    (answer.code() as u64) * 0x1_0000 + (answer.nodes() as u64)
 }
 
 // 0 where an image is accepted.
-pub fn verdict(verdict: Verdict) -> u64
-    ensures { result ≡ verdict_number verdict }
+pub fn verdict(checked: Result<(), Refusal>) -> u64
+    ensures { result ≡ verdict_number (told checked) }
 {
-    match verdict {
-        Verdict::Accepted => 0,
-        Verdict::Refused { number, place } => refusal(number, place),
-    }
+    checked.map_or_else(refused, |()| 0)
 }
 
-// The number of arguments.
-pub fn listed(listed: Listed) -> u64
-    ensures { result ≡ listed_number listed }
+// The number of arguments, or the length of what a call wrote.
+pub fn count(counted: Result<u32, Refusal>) -> u64
+    ensures { result ≡ count_number (outcome_of counted) }
 {
-    match listed {
-        Listed::Count(count) => count as u64,
-        Listed::Refused { number, place } => refusal(number, place),
-    }
+    counted.map_or_else(refused, u64::from)
 }
 
-// The length of what a call wrote.
-pub fn written(written: Written) -> u64
-    ensures { result ≡ written_number written }
+// An answer, or a cause with its place.
+pub fn answered(answered: Result<Answer, Refusal>) -> u64
+    ensures { result ≡ answered_number (outcome_of answered) }
 {
-    match written {
-        Written::Length(length) => length as u64,
-        Written::Refused { number, place } => refusal(number, place),
-    }
+    answered.map_or_else(refused, code_and_nodes)
 }
 
-// An answer with the place of a refusal: code * 65,536 + nodes.
-pub fn answered(answer: Answer) -> u64
-    ensures { result ≡ answered_number answer }
+// An answer in 32 bits, or a cause's bare number.
+pub fn pack(answered: Result<Answer, Refusal>) -> u32
+    requires { packed (outcome_of answered) < 0x1_0000_0000 }
+    ensures { result ≡ packed (outcome_of answered) }
 {
-    match answer {
-        Answer::Yes { nodes } => 0x1_0000 + (nodes as u64),
-        Answer::No { nodes } => 0x2_0000 + (nodes as u64),
-        Answer::Undecided { nodes } => 0x3_0000 + (nodes as u64),
-        Answer::Unknown => 0x4_0000,
-        Answer::Unfinished { nodes } => 0x5_0000 + (nodes as u64),
-        Answer::Refused { number, place } => refusal(number, place),
-    }
-}
-
-// An answer in 32 bits: code * 65,536 + nodes, or a cause's bare number.
-pub fn pack(answer: Answer) -> u32
-    requires { packed answer < 0x1_0000_0000 }
-    ensures { result ≡ packed answer }
-{
-    match answer {
-        Answer::Yes { nodes } => 0x1_0000 + nodes,
-        Answer::No { nodes } => 0x2_0000 + nodes,
-        Answer::Undecided { nodes } => 0x3_0000 + nodes,
-        Answer::Unknown => 0x4_0000,
-        Answer::Unfinished { nodes } => 0x5_0000 + nodes,
-        Answer::Refused { number, place: _ } => number,
+    match answered {
+        Ok(answer) => code_and_nodes(answer) as u32,
+        Err(refusal) => refusal.cause.number(),
     }
 }

@@ -9,13 +9,13 @@ use lib.Dec.{eqb, leb}
 use lib.ListN.{length, take}
 use lib.Seq.{length-take-le}
 use borrow.Author.Tests.{ne_eqb, le-leb, lt-leb}
-use Rattle.layout.specs.declared.Verdict.{Verdict}
-use Rattle.layout.specs.declared.Verdict.TheVariants.{Accepted, Refused}
+use Rattle.layout.specs.Causes.{Verdict, Accepted, Refused}
 use Rattle.layout.specs.Layout.{rules_of}
 use Rattle.layout.specs.Causes.{cause_of}
 use Rattle.writing.specs.Image.{Bytes}
-use Rattle.calls.specs.declared.Written.TheVariants as written
-use Rattle.calls.specs.Calls.{check_image, front, written_by}
+use Rattle.calls.specs.Outcomes as outcomes
+use Rattle.calls.specs.Outcomes.{by_verdict}
+use Rattle.calls.specs.Calls.{check_image, front}
 use Rattle.filing.specs.Calls.{filed_image, file_verdict, filed_by, file_table, file_numbers, typed_image, unfile_verdict, unfiled_by, unfile_table}
 use Rattle.filing.specs.Claims.{form_left, RoundTrip}
 use Rattle.filing.proofs.Claims.{filing}
@@ -24,14 +24,14 @@ use Rattle.returning.specs.Returning.{comes_back}
 
 -- ---- a verdict from the result
 
-by_refusal : (v : Verdict) (count n p : ℕ) → written_by v count ≡ written.Refused n p → v ≡ Refused n p
+by_refusal : (v : Verdict) (count n p : ℕ) → by_verdict v count ≡ outcomes.Refused n p → v ≡ Refused n p
 by_refusal Accepted count n p e = absurd (let z : ◌≡◌ {A = ℕ} 0 1 = cc in omega arith)
 by_refusal (Refused m q) count n p e =
     let x : m ≡ n = cc in
     let y : q ≡ p = cc in
     ap₂ Refused x y
 
-by_length : (v : Verdict) (count n : ℕ) → written_by v count ≡ written.Length n → v ≡ Accepted
+by_length : (v : Verdict) (count n : ℕ) → by_verdict v count ≡ outcomes.Given n → v ≡ Accepted
 by_length Accepted count n e = refl
 by_length (Refused m q) count n e = absurd (let z : ◌≡◌ {A = ℕ} 0 1 = cc in omega arith)
 
@@ -44,14 +44,14 @@ module _ (s form numbers back : List ℕ) where
   abbrev result : Bool
   result = comes_back s (length form) (length numbers) (length back)
 
-  pub turned_away : (n p : ℕ) → filed_by s (length form) (length numbers) ≡ written.Refused n p → false ≡ result
+  pub turned_away : (n p : ℕ) → filed_by s (length form) (length numbers) ≡ outcomes.Refused n p → false ≡ result
   unfolding filed_by comes_back
   turned_away n p e =
       let v = by_refusal verdict (length (filed_image s)) n p e in
       let h = (file_small s (length form) (length numbers) n p v).0 in
       sym (ap (λ (b : Bool). b && leb (length s) (length back)) (ap (λ (w : Verdict). eqb (cause_of w) 0) v ∙ ne_eqb n 0 (λ z. omega arith)))
 
-  pub filed : (n : ℕ) → filed_by s (length form) (length numbers) ≡ written.Length n → verdict ≡ Accepted
+  pub filed : (n : ℕ) → filed_by s (length form) (length numbers) ≡ outcomes.Given n → verdict ≡ Accepted
   unfolding filed_by
   filed n e = by_length verdict (length (filed_image s)) n e
 
@@ -86,7 +86,7 @@ module _ (s form numbers back : List ℕ) where
     unfolding comes_back
     by_room b h = ap₂ (λ (w : Verdict) (c : Bool). eqb (cause_of w) 0 && c) v h
 
-    pub stays_there : (n p : ℕ) → unfiled_by part given (length back) ≡ written.Refused n p
+    pub stays_there : (n p : ℕ) → unfiled_by part given (length back) ≡ outcomes.Refused n p
         → (false ≡ result) × (unfile_table part given back ≡ back)
     unfolding unfiled_by
     stays_there n p h = (
@@ -94,7 +94,7 @@ module _ (s form numbers back : List ℕ) where
       (filing.of_unfile part given back).form.left n p (by_refusal (unfile_verdict part given (length back)) (length (typed_image part given)) n p h),
     )
       where
-        not_both : (m : ℕ) → written.Refused n p ≡ written.Length m → ⊥
+        not_both : (m : ℕ) → outcomes.Refused n p ≡ outcomes.Given m → ⊥
         not_both m q = let z : ◌≡◌ {A = ℕ} 0 1 = cc in omega arith
 
         short : length back < length s
@@ -105,7 +105,7 @@ module _ (s form numbers back : List ℕ) where
                 absurd (not_both (length s) (sym h ∙ ap (λ (l : List ℕ). unfiled_by l given (length back)) part_is ∙ (trip k).and_back.0))
             go (no k) = omega arith
 
-    pub comes_back_lem : (n : ℕ) → unfiled_by part given (length back) ≡ written.Length n
+    pub comes_back_lem : (n : ℕ) → unfiled_by part given (length back) ≡ outcomes.Given n
         → (true ≡ result) × (unfile_table part given back ≡ front s back)
     unfolding unfiled_by
     comes_back_lem n h =

@@ -7,7 +7,7 @@ use native.Mathlib.Omega.{arith}
 use lib.ListN.{length, replicate}
 use Rattle.program.specs.Program.{Program}
 use Rattle.program.specs.Limits.{Limits}
-use Rattle.layout.specs.declared.Verdict.TheVariants.{Accepted}
+use Rattle.layout.specs.Causes.{Accepted}
 use Rattle.layout.specs.Reading.{program_in}
 use Rattle.image.proofs.Accepted.{accepted_limits}
 use Rattle.argument.specs.Argument.{ArgumentList}
@@ -17,7 +17,7 @@ use Rattle.preference.proofs.Preferences.{preferred_renders}
 use Rattle.tree.specs.Forest.{Forest, size}
 use Rattle.tree.specs.Entries.{Entry}
 use Rattle.answer.specs.declared.Answer.{Answer}
-use Rattle.answer.specs.declared.Answer.TheVariants.{Yes, No, Undecided, Unknown, Unfinished, Refused}
+use Rattle.answer.specs.declared.Answer.TheVariants.{Yes, No, Undecided, Unknown, Unfinished}
 use Rattle.answer.specs.Forest.{ForestIn, EntriesIn}
 use Rattle.answer.specs.Answer.{node_count, tests, answer, code_of, nodes_of}
 use Rattle.answer.proofs.Forests.{forest_published, count_published, entries_published}
@@ -25,10 +25,11 @@ use Rattle.answer.proofs.Answers.{entries_count, answer_unknown, answer_unfinish
 use Rattle.answer.proofs.Answers.{answer_nodes_unfinished, answer_nodes_unknown, answer_not_refused}
 use Rattle.answer.proofs.Answers.{answer_yes, answer_no, answer_undecided}
 use Rattle.nodes.specs.declared.Node.{Node}
-use Rattle.calls.specs.declared.Listed.TheVariants as lists
-use Rattle.calls.specs.Calls.{check_image, list_in, list_verdict, listed_by, listed, list_table, list_call, listed_number}
+use Rattle.calls.specs.Outcomes.{Outcome, by_verdict, code_in}
+use Rattle.calls.specs.Outcomes as outcomes
+use Rattle.calls.specs.Calls.{check_image, list_in, list_verdict, listed, list_table, list_call, count_number}
 use Rattle.calls.specs.Calls.{unless_refused, front, query_verdict, queried, query_arguments, query_column, query_nodes}
-use Rattle.calls.specs.Calls.{nodes_after, node_of, zeroed, Call, asked, literal_asked, verdict_of, code_from, nodes_from}
+use Rattle.calls.specs.Calls.{nodes_after, nodes_left, node_of, zeroed, Call, asked, literal_asked, verdict_of, code_from, nodes_from}
 use Rattle.derivation.proofs.Tables.{limits_heads}
 use Rattle.calls.proofs.Refusals.{checked_heads, check_accepted, list_accepted, query_accepted}
 use Rattle.warrant.specs.Answers.{Answers, NodesAfter}
@@ -89,7 +90,6 @@ nodes_after_lem (Unfinished n) b es table f g = record {
   after_unfinished = λ e. ap (λ (m : ℕ). front (replicate m (node_of zeroed)) table) (g refl);
   after_finished = λ e. absurd (omega arith);
 }
-nodes_after_lem (Refused n place) b es table f g = absurd (f refl)
 
 -- ---- of the calls
 
@@ -115,14 +115,14 @@ module _ (s : List ℕ) where
       ∙ sym (count_published (program_in s) heads h f g)
 
   list_count : (list : List ℕ) (room : ℕ) → list_verdict s room ≡ Accepted → ArgumentList (program_in s).rules list
-      → (listed s room ≡ lists.Count (length list)) × (list_call s room ≡ length list)
+      → (listed s room ≡ outcomes.Given (length list)) × (list_call s room ≡ length list)
   unfolding listed
-  list_count list room e a = (counts, let n = ap listed_number counts in omega arith)
+  list_count list room e a = (counts, let n = ap count_number counts in omega arith)
     where
-      counts : listed s room ≡ lists.Count (length list)
+      counts : listed s room ≡ outcomes.Given (length list)
       counts =
-          ap (λ v. listed_by v (length (list_in s))) e
-          ∙ ap (λ (l : List ℕ). lists.Count (length l)) (same_list (list_accepted s room e).0 list a)
+          ap (λ v. by_verdict v (length (list_in s))) e
+          ∙ ap (λ (l : List ℕ). outcomes.Given (length l)) (same_list (list_accepted s room e).0 list a)
 
   list_table_lem : (list table : List ℕ) → list_verdict s (length table) ≡ Accepted → ArgumentList (program_in s).rules list
       → list_table s table ≡ front list table
@@ -140,7 +140,7 @@ module _ (s : List ℕ) where
 
   node_table : (h b al : ℕ) (es : List Entry) (table : List Node) → query_verdict s h b al (length table) ≡ Accepted
       → EntriesIn (program_in s) h es
-      → NodesAfter (code_of (queried s h b al (length table))) b es table (query_nodes s h b al table)
+      → NodesAfter (code_in (queried s h b al (length table))) b es table (query_nodes s h b al table)
   unfolding query_column
   node_table h b al es table e k =
       let p = program_in s in
@@ -148,7 +148,7 @@ module _ (s : List ℕ) where
       let q = queried_accepted s h b al (length table) e in
       let same = (entries_published p (checked_heads s checked) h es).0 k in
       let cut = answer_unfinished p (preferred_test p) h b in
-      subst₂ (λ (a : Answer) (l : List Entry). NodesAfter (code_of a) b es table (nodes_after a (map node_of l) (node_of zeroed) table))
+      subst₂ (λ (a : Outcome Answer) (l : List Entry). NodesAfter (code_in a) b es table (nodes_left a (map node_of l) (node_of zeroed) table))
       (sym q) same
       (nodes_after_lem (answer p h b) b es table (answer_not_refused p (preferred_test p) h b) (λ z.
       let o = cut.0 z in answer_nodes_unfinished p (preferred_test p) h b o.0 o.1))

@@ -7,23 +7,23 @@ use lib.Dec.{ltb, leb}
 use lib.ListN.{length}
 use borrow.Author.Tests.{lt-ltb, le-ltb, le-leb, lt-leb, ltb-true, ltb-false}
 use Rattle.lists.specs.Lists.{choose}
-use Rattle.layout.specs.declared.Verdict.{Verdict}
-use Rattle.layout.specs.declared.Verdict.TheVariants as verdicts
+use Rattle.layout.specs.Causes.{Verdict}
+use Rattle.layout.specs.Causes as verdicts
 use Rattle.layout.specs.Causes.{refuse, and_then}
 use Rattle.layout.specs.Reading.{program_in}
 use Rattle.image.proofs.Accepted.{accepted_limits}
 use Rattle.program.specs.Inside.Table.{Holds}
 use Rattle.tree.specs.Inside.Tables.{Columns}
 use Rattle.answer.specs.declared.Answer.{Answer}
-use Rattle.answer.specs.declared.Answer.TheVariants.{Refused}
+use Rattle.calls.specs.Outcomes.{Outcome, Given, Refused, by_verdict}
 use Rattle.answer.specs.Answer.{tests, forest_entries, answer}
 use Rattle.answer.specs.Tables.{front}
 use Rattle.answer.specs.Inside.Columns.{columns_after}
 use Rattle.decision.specs.Inside.Steps.{Held, settled, Settled}
 use Rattle.listing.specs.Inside.Listing.{with_list}
-use Rattle.calls.specs.Calls.{check_image, list_in, query_verdict, answered_by, queried, unless_refused, query_arguments}
+use Rattle.calls.specs.Calls.{check_image, list_in, query_verdict, queried, unless_refused, query_arguments}
 use Rattle.calls.specs.Calls.{query_column}
-use Rattle.warrant.specs.Inside.Columns.{query_columns}
+use Rattle.warrant.specs.Inside.Columns.{query_columns, columns_left}
 use Rattle.calls.proofs.Refusals.{check_accepted}
 
 -- an accepted image's program is within the limits
@@ -32,7 +32,7 @@ held_in s t e h = record { program = program_in s; limits = accepted_limits s (c
 
 module _ (s : List ℕ) (h b : ℕ) (arguments : List ℕ) (room : ℕ) where
   -- the result and the tables are those of the query
-  abbrev pub Queried : Answer → List ℕ → (before after : Columns) → Type 0
+  abbrev pub Queried : Outcome Answer → List ℕ → (before after : Columns) → Type 0
   Queried r arguments' before after =
       (r ≡ queried s h b (length arguments) room)
       × (arguments' ≡ query_arguments s h b arguments room)
@@ -42,14 +42,14 @@ module _ (s : List ℕ) (h b : ℕ) (arguments : List ℕ) (room : ℕ) where
   verdict = query_verdict s h b (length arguments) room
 
   -- the four tables by the answer
-  columns_by : (r : Answer) (t : Columns) → r ≡ queried s h b (length arguments) room
-      → columns_after r (forest_entries (tests (program_in s)) h) t ≡ query_columns s h b (length arguments) room t
+  columns_by : (r : Outcome Answer) (t : Columns) → r ≡ queried s h b (length arguments) room
+      → columns_left r (forest_entries (tests (program_in s)) h) t ≡ query_columns s h b (length arguments) room t
   unfolding query_column
-  columns_by r t e = ap (λ (a : Answer). columns_after a (forest_entries (tests (program_in s)) h) t) e
+  columns_by r t e = ap (λ (a : Outcome Answer). columns_left a (forest_entries (tests (program_in s)) h) t) e
 
-  by_verdict : (v : Verdict) → verdict ≡ v → answered_by v (answer (program_in s) h b) ≡ queried s h b (length arguments) room
+  result_by : (v : Verdict) → verdict ≡ v → by_verdict v (answer (program_in s) h b) ≡ queried s h b (length arguments) room
   unfolding queried
-  by_verdict v e = ap (λ (w : Verdict). answered_by w (answer (program_in s) h b)) (sym e)
+  result_by v e = ap (λ (w : Verdict). by_verdict w (answer (program_in s) h b)) (sym e)
 
   table_by : (v : Verdict) → verdict ≡ v
       → unless_refused v (front (list_in s) arguments) arguments ≡ query_arguments s h b arguments room
@@ -59,7 +59,7 @@ module _ (s : List ℕ) (h b : ℕ) (arguments : List ℕ) (room : ℕ) where
   -- a cause leaves all tables as they were
   refused : (n k : ℕ) → verdict ≡ verdicts.Refused n k → (t : Columns) → Queried (Refused n k) arguments t t
   refused n k e t =
-      let r = by_verdict (verdicts.Refused n k) e in
+      let r = result_by (verdicts.Refused n k) e in
       (r, table_by (verdicts.Refused n k) e, columns_by (Refused n k) t r)
 
   -- the causes in the order listed
@@ -110,10 +110,10 @@ module _ (s : List ℕ) (h b : ℕ) (arguments : List ℕ) (room : ℕ) where
               go true e =
                   let f = fits false (lt-leb (length (list_in s)) (length arguments) (ltb-true _ _ e)) in
                   let v = last_by true e in
-                  let q = d.result_is ∙ f.0 ∙ by_verdict (verdicts.Refused 23 0) v in
+                  let q = d.result_is ∙ f.0 ∙ result_by (verdicts.Refused 23 0) v in
                   (q, d.arguments_are ∙ f.1 ∙ table_by (verdicts.Refused 23 0) v, d.nodes_are ∙ columns_by r before q)
               go false e =
                   let f = fits true (le-leb (length (list_in s)) (length arguments) (ltb-false _ _ e)) in
                   let v = last_by false e in
-                  let q = d.result_is ∙ f.0 ∙ by_verdict verdicts.Accepted v in
+                  let q = d.result_is ∙ f.0 ∙ result_by verdicts.Accepted v in
                   (q, d.arguments_are ∙ f.1 ∙ table_by verdicts.Accepted v, d.nodes_are ∙ columns_by r before q)

@@ -7,8 +7,7 @@ use native.Mathlib.Nat.{pow-le-pow_right}
 use native.Mathlib.Omega.{arith}
 use lib.ListN.{length}
 use Rattle.program.specs.Program.{defeasibles}
-use Rattle.layout.specs.declared.Verdict.{Verdict}
-use Rattle.layout.specs.declared.Verdict.TheVariants.{Accepted, Refused}
+use Rattle.layout.specs.Causes.{Verdict, Accepted, Refused}
 use Rattle.layout.specs.Reading.{program_in}
 use Rattle.image.proofs.Accepted.{accepted_limits}
 use Rattle.argument.proofs.Lists.{list_length}
@@ -18,10 +17,11 @@ use Rattle.answer.specs.declared.Answer.TheVariants as answers
 use Rattle.answer.specs.Answer.{answer, code_of, tests, forest_entries}
 use Rattle.answer.proofs.Answers.{answer_not_refused}
 use Rattle.nodes.specs.declared.Node.{Node}
-use Rattle.calls.specs.declared.Listed.TheVariants as lists
-use Rattle.calls.specs.Calls.{check_image, check_call, verdict_number, refusal_number, list_in, list_verdict, listed_by, listed}
-use Rattle.calls.specs.Calls.{listed_number, list_table, list_call, unless_refused, front, query_verdict, query_arguments}
-use Rattle.calls.specs.Calls.{query_column, query_nodes, column_after, node_of, trees_call, answered_number, Carries}
+use Rattle.calls.specs.Outcomes.{by_verdict, code_in}
+use Rattle.calls.specs.Outcomes as outcomes
+use Rattle.calls.specs.Calls.{check_image, check_call, verdict_number, refusal_number, list_in, list_verdict, listed}
+use Rattle.calls.specs.Calls.{count_number, list_table, list_call, unless_refused, front, query_verdict, query_arguments}
+use Rattle.calls.specs.Calls.{query_column, query_nodes, column_in, node_of, trees_call, answered_number, Carries}
 use Rattle.calls.specs.Calls.{Call, query, host, trees, asked, verdict_of, code_from, HandsBack}
 use Rattle.calls.proofs.Refusals.{Bounded, check_judged, list_judged, call_judged, check_refused, list_refused, query_refused}
 use Rattle.calls.proofs.Refusals.{check_accepted, list_accepted}
@@ -44,7 +44,7 @@ verdict_zero (Refused n place) f =
 
 listed_small : (v : Verdict) (count : ℕ) → (v ≡ Accepted → count < 0x1_0000_0000)
     → ((n place : ℕ) → v ≡ Refused n place → Bounded n place)
-    → (v ≡ Accepted) ↔ (listed_number (listed_by v count) < 0x1_0000_0000)
+    → (v ≡ Accepted) ↔ (count_number (by_verdict v count) < 0x1_0000_0000)
 listed_small Accepted count g f = (λ e. omega (arith, g refl), λ h. refl)
 listed_small (Refused n place) count g f =
     let k = f n place refl in (
@@ -58,7 +58,6 @@ code_limit (answers.No n) = omega arith
 code_limit (answers.Undecided n) = omega arith
 code_limit answers.Unknown = omega arith
 code_limit (answers.Unfinished n) = omega arith
-code_limit (answers.Refused n place) = omega arith
 
 module _ (s : List ℕ) where
   -- ---- check and list
@@ -75,11 +74,11 @@ module _ (s : List ℕ) where
       omega (arith, list_length (program_in s).rules)
 
   list_hands_back : (room n place : ℕ) → list_verdict s room ≡ Refused n place
-      → (listed s room ≡ lists.Refused n place) × Carries (list_call s room) n place
+      → (listed s room ≡ outcomes.Refused n place) × Carries (list_call s room) n place
   unfolding listed
   list_hands_back room n place e = (
-    ap (λ v. listed_by v (length (list_in s))) e,
-    subst (λ v. Carries (listed_number (listed_by v (length (list_in s)))) n place) (sym e)
+    ap (λ v. by_verdict v (length (list_in s))) e,
+    subst (λ v. Carries (count_number (by_verdict v (length (list_in s)))) n place) (sym e)
         (carried n place (list_refused s room n place e)),
   )
 
@@ -105,7 +104,7 @@ module _ (s : List ℕ) where
   -- no code of an answer stands in a refusal
   no_answer : (c : Call) (n place : ℕ) → verdict_of s c ≡ Refused n place → 1 ≤ code_from s c → code_from s c ≤ 5 → ⊥
   no_answer (query h b al nl) n place e low high =
-      let none = ap code_of (queried_refused s h b al nl n place e) in
+      let none = ap code_in (queried_refused s h b al nl n place e) in
       omega arith
   no_answer (host h b) n place e low high =
       let bare = host_refused s h b n place (queried_refused s h b 4096 4096 n place e) in
@@ -152,7 +151,7 @@ module _ (s : List ℕ) where
       → query_nodes s h b al table ≡ table
   unfolding query_column
   nodes_left_lem h b al table n place e =
-      ap (λ a. column_after node_of a (forest_entries (tests (program_in s)) h) table)
+      ap (λ a. column_in node_of a (forest_entries (tests (program_in s)) h) table)
       (queried_refused s h b al (length table) n place e)
 
 pub demand_1 : Demand_1

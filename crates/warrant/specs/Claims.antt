@@ -3,7 +3,7 @@
 -- with (crate `calls`, specs/Calls.antt).
 use Rattle.std.specs.Prelude.{◌≡◌, List, ◌↔◌, ℕ, ◌≤◌, ◌<◌, length}
 use Rattle.program.specs.Program.{Program}
-use Rattle.layout.specs.declared.Verdict.TheVariants.{Accepted, Refused}
+use Rattle.layout.specs.Causes.{Accepted, Refused}
 use Rattle.layout.specs.Reading.{program_in}
 use Rattle.argument.specs.Argument.{ArgumentList}
 use Rattle.defeat.specs.OfProgram.{Exclude}
@@ -11,9 +11,9 @@ use Rattle.tree.specs.Forest.{Forest, size}
 use Rattle.tree.specs.Entries.{Entry}
 use Rattle.answer.specs.Warrant.{WarrantedBy, Warranted}
 use Rattle.answer.specs.Forest.{ForestIn, EntriesIn}
-use Rattle.answer.specs.Answer.{code_of}
 use Rattle.nodes.specs.declared.Node.{Node}
-use Rattle.calls.specs.declared.Listed.TheVariants as lists
+use Rattle.calls.specs.Outcomes.{code_in}
+use Rattle.calls.specs.Outcomes as outcomes
 use Rattle.calls.specs.Calls.{check_image, check_call, list_verdict, listed, list_table, list_call, query_verdict, queried}
 use Rattle.calls.specs.Calls.{query_arguments, query_nodes, front, Carries, Call, asked, literal_asked, verdict_of, code_from}
 use Rattle.calls.specs.Calls.{nodes_from, HandsBack, SaysYes}
@@ -40,7 +40,7 @@ pub record Demand_1 : Type 0 where
   pub check_refused : (image : List ℕ) (number place : ℕ) → check_image image ≡ Refused number place
       → Carries (check_call image) number place
   pub list_refused : (image : List ℕ) (room number place : ℕ) → list_verdict image room ≡ Refused number place
-      → (listed image room ≡ lists.Refused number place) × Carries (list_call image room) number place
+      → (listed image room ≡ outcomes.Refused number place) × Carries (list_call image room) number place
   pub call_refused : (image : List ℕ) (c : Call) (number place : ℕ) → verdict_of image c ≡ Refused number place
       → HandsBack image c number place
   -- it passes for no acceptance, no count and no answer
@@ -77,7 +77,7 @@ pub record Demand_2 : Type 0 where
   -- "listing returns the argument count and writes the list"
   pub list_count : (image list : List ℕ) (room : ℕ) → list_verdict image room ≡ Accepted
       → ArgumentList (program_in image).rules list
-      → (listed image room ≡ lists.Count (length list)) × (list_call image room ≡ length list)
+      → (listed image room ≡ outcomes.Given (length list)) × (list_call image room ≡ length list)
   pub list_table_lem : (image list table : List ℕ) → list_verdict image (length table) ≡ Accepted
       → ArgumentList (program_in image).rules list → list_table image table ≡ front list table
   -- each answer and its nodes
@@ -91,7 +91,7 @@ pub record Demand_2 : Type 0 where
   -- the marked tree
   pub node_table : (image : List ℕ) (h budget argument_room : ℕ) (entries : List Entry) (table : List Node)
       → query_verdict image h budget argument_room (length table) ≡ Accepted → EntriesIn (program_in image) h entries
-      → NodesAfter (code_of (queried image h budget argument_room (length table))) budget entries table
+      → NodesAfter (code_in (queried image h budget argument_room (length table))) budget entries table
       (query_nodes image h budget argument_room table)
 
 -- ---- demand 3

@@ -1,11 +1,12 @@
 // The query over four tables of numbers, one for each field of the node entries.
 ghost use Rattle.std.specs.Prelude.{◌≡◌, length};
 ghost use Rattle.tree.specs.Inside.Tables.{columns, Hold};
+ghost use Rattle.calls.specs.Outcomes.{outcome_of};
 ghost use Rattle.calls.specs.Calls.{queried, query_arguments};
 ghost use Rattle.warrant.specs.Inside.Columns.{query_columns};
 
 use answer::Answer;
-use layout::Verdict;
+use layout::{Cause, Refusal};
 
 // Answers a literal beside a node table of `room` entries. What the four tables held before plays no part in the answer.
 pub fn query<'i, 'a, 't>(
@@ -18,35 +19,24 @@ pub fn query<'i, 'a, 't>(
     parents: &'t mut [u32],
     kinds: &'t mut [u8],
     marks: &'t mut [u8],
-) -> Answer
+) -> Result<Answer, Refusal>
     requires { Hold 4096 (columns indexes.old parents.old kinds.old marks.old) }
-    ensures { (result ≡ queried image.now literal budget (length arguments.old) room)
+    ensures { (outcome_of result ≡ queried image.now literal budget (length arguments.old) room)
         × (arguments.new ≡ query_arguments image.now literal budget arguments.old room)
         × (columns indexes.new parents.new kinds.new marks.new
         ≡ query_columns image.now literal budget (length arguments.old) room
         (columns indexes.old parents.old kinds.old marks.old)) }
 {
     let mut table = [0u64; 419];
-    if let Verdict::Refused { number, place } = calls::load(image, &mut table) {
-        return Answer::Refused { number, place };
-    }
+    calls::load(image, &mut table)?;
     if 128 <= literal {
-        return Answer::Refused {
-            number: Answer::QUERY_LITERAL,
-            place: 0,
-        };
+        return Err(Cause::QueryLiteral.at(0));
     }
     if 4096 < budget {
-        return Answer::Refused {
-            number: Answer::BUDGET,
-            place: 0,
-        };
+        return Err(Cause::Budget.at(0));
     }
     if room < budget as usize {
-        return Answer::Refused {
-            number: Answer::NODE_TABLE,
-            place: 0,
-        };
+        return Err(Cause::NodeTable.at(0));
     }
     decision::sized::query(
         &table,
@@ -58,4 +48,5 @@ pub fn query<'i, 'a, 't>(
         kinds,
         marks,
     )
+    .ok_or(Cause::ArgumentTable.at(0))
 }

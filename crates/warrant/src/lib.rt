@@ -3,10 +3,12 @@
 #![tactic(auto)]
 
 ghost use Rattle.std.specs.Prelude.{◌≡◌, length};
+ghost use Rattle.calls.specs.Outcomes.{outcome_of};
 ghost use Rattle.calls.specs.Calls.{queried, query_arguments, query_nodes};
 
 use answer::Answer;
-pub use calls::{Listed, check, list};
+pub use calls::{check, list};
+use layout::Refusal;
 use nodes::Node;
 
 mod columns;
@@ -18,8 +20,8 @@ pub fn query(
     budget: u32,
     arguments: &mut [u32],
     nodes: &mut [Node],
-) -> Answer
-    ensures { (result ≡ queried image.now literal budget (length arguments.old) (length nodes.old)) × (arguments.new ≡ query_arguments image.now literal budget arguments.old (length nodes.old)) × (nodes.new ≡ query_nodes image.now literal budget (length arguments.old) nodes.old) }
+) -> Result<Answer, Refusal>
+    ensures { (outcome_of result ≡ queried image.now literal budget (length arguments.old) (length nodes.old)) × (arguments.new ≡ query_arguments image.now literal budget arguments.old (length nodes.old)) × (nodes.new ≡ query_nodes image.now literal budget (length arguments.old) nodes.old) }
 {
     let mut indexes = [0u32; 4096];
     let mut parents = [0u32; 4096];
@@ -35,14 +37,14 @@ pub fn query(
         &mut parents,
         &mut kinds,
         &mut marks,
-    );
+    )?;
     nodes::write(
         nodes,
         &indexes,
         &parents,
         &kinds,
         &marks,
-        nodes::count(answer),
+        answer.nodes() as usize,
     );
-    answer
+    Ok(answer)
 }

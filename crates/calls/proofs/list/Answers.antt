@@ -7,7 +7,7 @@ use Rattle.program.specs.Inside.Table.{Shaped, Holds}
 use Rattle.rows.specs.Switched.{NeedsOne}
 use Rattle.derivation.proofs.Tables.{limits_shaped}
 use Rattle.closing.proofs.Masks.{limits_needs}
-use Rattle.layout.specs.declared.Verdict.TheVariants.{Accepted}
+use Rattle.layout.specs.Causes.{Accepted}
 use Rattle.layout.specs.Reading.{program_in}
 use Rattle.image.proofs.Accepted.{accepted_limits}
 use Rattle.calls.specs.Calls.{check_image}

@@ -9,8 +9,7 @@ use Rattle.program.specs.Inside.Table.{Holds, Shaped}
 use Rattle.derivation.specs.Closure.{closure, contradictory}
 use Rattle.derivation.proofs.Choices.{Π_mask_empty}
 use Rattle.derivation.proofs.Tables.{limits_shaped}
-use Rattle.layout.specs.declared.Verdict.{Verdict}
-use Rattle.layout.specs.declared.Verdict.TheVariants.{Accepted, Refused}
+use Rattle.layout.specs.Causes.{Verdict, Accepted, Refused}
 use Rattle.layout.specs.Causes.{refuse, and_then, verdict}
 use Rattle.layout.specs.Reading.{program_in}
 use Rattle.image.proofs.Accepted.{accepted_limits}

@@ -1,2 +1,0 @@
--- What private steps are asked and what they leave, and the tables they work on: held to the definitions beside this folder.
-pub mod Input
