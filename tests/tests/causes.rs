@@ -1,4 +1,4 @@
-//! The causes in the engine's sources, as text: each has a constant with the header's name and number, and no code has the bare
+//! The causes in the engine's sources, as text: each is a variant with the header's name and number, and no code has the bare
 //! number instead.
 
 use std::collections::BTreeMap;
@@ -9,45 +9,37 @@ use std::path::PathBuf;
 use foqtirel_tests::header::{causes, in_capitals, root};
 use foqtirel_tests::reference::Cause;
 
-/// The type that carries refusals, the file with its constants, and the causes that are its own.
-const CARRIERS: [(&str, &str, RangeInclusive<usize>); 5] = [
-    ("Verdict", "crates/layout/src/lib.rt", 1..=14),
-    ("Answer", "crates/answer/src/lib.rt", 20..=23),
-    ("Listed", "crates/calls/src/lib.rt", 23..=23),
-    ("Written", "crates/calls/src/lib.rt", 24..=29),
-    ("Billed", "crates/billing/src/lib.rt", 34..=35),
+/// The enum of the causes, its file, and those that are its own.
+const ENUMS: [(&str, &str, RangeInclusive<usize>); 2] = [
+    ("Cause", "crates/layout/src/lib.rt", 1..=29),
+    ("BillCause", "crates/billing/src/lib.rt", 34..=35),
 ];
 
 fn text(path: &str) -> String {
     fs::read_to_string(root().join(path)).unwrap_or_else(|error| panic!("{path}: {error}"))
 }
 
-/// Every `pub const NAME: u32 = number;` within `impl` of this name.
-fn constants_of(name: &str, path: &str) -> BTreeMap<String, usize> {
+/// Every variant `Name = number,` of the enum of this name, as `NAME`.
+fn variants_of(name: &str, path: &str) -> BTreeMap<String, usize> {
     let text = text(path);
     let (_, rest) = text
-        .split_once(&format!("\nimpl {name} {{\n"))
-        .unwrap_or_else(|| panic!("{path} has no impl {name}"));
+        .split_once(&format!("\npub enum {name} {{\n"))
+        .unwrap_or_else(|| panic!("{path} has no enum {name}"));
     let (block, _) = rest.split_once("\n}\n").expect("an end");
     let mut found = BTreeMap::new();
     for line in block.lines() {
-        let Some(constant) = line.trim().strip_prefix("pub const ") else {
-            continue;
-        };
-        let parts = constant
-            .strip_suffix(';')
-            .and_then(|c| c.split_once(": u32 = "));
+        let parts = line.trim().strip_suffix(',').and_then(|v| v.split_once(" = "));
         let (name, number) = parts.unwrap_or_else(|| panic!("{path}: {line}"));
         let number = number.parse().unwrap_or_else(|_| panic!("{path}: {line}"));
-        let twice = found.insert(name.to_string(), number);
+        let twice = found.insert(in_capitals(name), number);
         assert_eq!(twice, None, "{path}: {name}");
     }
     found
 }
 
-/// The header has each cause of document 01 and of the requests under its name and no others, and so has each carrier those that are its own.
+/// The header has each cause of document 01 and of the requests under its name and no others, and so has each enum those that are its own.
 #[test]
-fn each_cause_has_its_constant() {
+fn each_cause_has_its_variant() {
     let documented = Cause::ALL.iter().map(|cause| {
         let name = in_capitals(&format!("{cause:?}"));
         (name, cause.number() as usize)
@@ -64,10 +56,10 @@ fn each_cause_has_its_constant() {
             .chain(34..=35)
             .collect::<Vec<_>>()
     );
-    for (carrier, path, own) in CARRIERS {
+    for (name, path, own) in ENUMS {
         let mut wanted = header.clone();
         wanted.retain(|_, number| own.contains(number));
-        assert_eq!(constants_of(carrier, path), wanted, "{path}: {carrier}");
+        assert_eq!(variants_of(name, path), wanted, "{path}: {name}");
     }
 }
 
@@ -87,7 +79,7 @@ fn sources() -> Vec<PathBuf> {
 /// The first word of these that a bare number follows: where a refusal is made, handed on or compared. 0 is no cause's number.
 fn bare_number(line: &str) -> Option<&'static str> {
     let code = line.split("//").next().unwrap_or_default();
-    let words = ["number:", "number ==", "number !=", "Refused(", "refused("];
+    let words = ["number:", "number ==", "number !=", "number() ==", "number() !=", "refused("];
     words.into_iter().find(|word| {
         code.split(word)
             .skip(1)
@@ -103,25 +95,25 @@ fn no_code_has_the_bare_number_of_a_cause() {
     let mut bare = Vec::new();
     for path in sources {
         let text = fs::read_to_string(&path).expect("a source");
-        carriers += text.matches("Refused").count();
+        carriers += text.matches("Cause::").count();
         for (line, words) in text.lines().enumerate() {
             if let Some(word) = bare_number(words) {
                 bare.push(format!("{}:{}: {word} ..", path.display(), line + 1));
             }
         }
     }
-    assert!(carriers > 20, "only {carriers} refusals in the sources");
+    assert!(carriers > 20, "only {carriers} causes in the sources");
     assert!(bare.is_empty(), "{}", bare.join("\n"));
 }
 
 #[test]
 fn bare_numbers_are_seen() {
     assert_eq!(bare_number("    number: 10,"), Some("number:"));
-    assert_eq!(bare_number("Body::Refused(6)"), Some("Refused("));
+    assert_eq!(bare_number("if cause.number() == 6 {"), Some("number() =="));
     assert_eq!(bare_number("return refused( 1);"), Some("refused("));
     assert_eq!(bare_number("if number == 23 {"), Some("number =="));
-    assert_eq!(bare_number("    number: Verdict::REPEATED_RULE,"), None);
-    assert_eq!(bare_number("Refused { number: u32, place: u32 },"), None);
+    assert_eq!(bare_number("    Err(Cause::RepeatedRule.at(place))"), None);
+    assert_eq!(bare_number("    number: cause.number(),"), None);
     assert_eq!(bare_number("// number: 10"), None);
     assert_eq!(bare_number("    number: 0,"), None);
 }

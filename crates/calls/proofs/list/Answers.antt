@@ -1,7 +1,8 @@
 -- `list` meets its contract, by what the check and the list answer.
-use mathlib.Core.Path.{◌≡◌, sym, ◌∙◌}
+use mathlib.Core.Path.{◌≡◌, sym, ap, ◌∙◌}
 use mathlib.Core.List.{List}
 use Prim.Native.Nat.{ℕ}
+use Rattle.layout.specs.Causes.{told}
 use Rattle.program.specs.Limits.{Limits}
 use Rattle.program.specs.Inside.Table.{Shaped, Holds}
 use Rattle.rows.specs.Switched.{NeedsOne}
@@ -21,20 +22,20 @@ within-limits s e = accepted_limits s (check_accepted s e).0
 needed : (s t : List ℕ) → check_image s ≡ Accepted → (check_image s ≡ Accepted → Holds (program_in s) t) → Shaped t × NeedsOne t
 needed s t e h = (limits_shaped (program_in s) t (h e) (within-limits s e), limits_needs (program_in s) t (h e) (within-limits s e))
 
-pub returns-in-Refused : goal.returns-in-Refused
-returns-in-Refused c = list_refused _ _ _ _ (sym c.load.ensures.0 ∙ c.in-Refused.is)
+pub returns-in_err-load : goal.returns-in_err-load
+returns-in_err-load c = list_refused _ _ _ _ (sym c.load.ensures.0 ∙ ap told c.in_err-load.was)
 
 pub list-requires : goal.list-requires
-list-requires c = needed c.args.image.now _ (sym c.load.ensures.0 ∙ c.in_default.is) c.load.ensures.1
+list-requires c = needed c.args.image.now _ (sym c.load.ensures.0 ∙ ap told c.in_ok-load.was) c.load.ensures.1
 
 pub returns-in-Count : goal.returns-in-Count
 returns-in-Count c = let s = c.args.image.now in
-    let e = sym c.load.ensures.0 ∙ c.in_default.is in
+    let e = sym c.load.ensures.0 ∙ ap told c.in_ok-load.was in
     let r = list_count s c.args.arguments.now e _ (sym (c.list.ensures.result (program_in s) (within-limits s e) (c.load.ensures.1 e)) ∙ c.in-Count.is) in
     (r.0, c.list.ensures.written (program_in s) (within-limits s e) (c.load.ensures.1 e) ∙ r.1)
 
 pub returns-in-Over : goal.returns-in-Over
 returns-in-Over c = let s = c.args.image.now in
-    let e = sym c.load.ensures.0 ∙ c.in_default.is in
+    let e = sym c.load.ensures.0 ∙ ap told c.in_ok-load.was in
     let r = list_over s c.args.arguments.now e (sym (c.list.ensures.result (program_in s) (within-limits s e) (c.load.ensures.1 e)) ∙ c.in-Over.is) in
     (r.0, c.list.ensures.written (program_in s) (within-limits s e) (c.load.ensures.1 e) ∙ r.1)

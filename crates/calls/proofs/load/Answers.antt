@@ -3,6 +3,7 @@ use mathlib.Core.Path.{◌≡◌, refl, sym, ap, ap₂, ◌∙◌}
 use mathlib.Core.Bool.{Bool, true, false}
 use mathlib.Core.List.{List}
 use Prim.Native.Nat.{ℕ}
+use Rattle.layout.specs.Causes.{told}
 use Rattle.literals.specs.Sets.{clash}
 use Rattle.program.specs.Program.{Rule, Program, Π, Π_mask}
 use Rattle.program.specs.Inside.Table.{Holds, Shaped}
@@ -44,22 +45,22 @@ module _ (s : List ℕ) where
   accepted : (t : List ℕ) → verdict s ≡ Accepted → contradictory (Π (program_in s).rules) ≡ false → Holds (program_in s) t → (Accepted ≡ check_image s) × (check_image s ≡ Accepted → Holds (program_in s) t)
   accepted t e f h = (sym (check_by Accepted false e f), λ a. h)
 
-pub returns-in-Refused : goal.returns-in-Refused
-returns-in-Refused c = refused c.args.image.now _ _ _ (sym c.read.ensures.0 ∙ c.in-Refused.is)
+pub returns-in_err-read : goal.returns-in_err-read
+returns-in_err-read c = refused c.args.image.now _ _ _ (sym c.read.ensures.0 ∙ ap told c.in_err-read.was)
 
 pub close-requires : goal.close-requires
 close-requires c = let s = c.args.image.now in
-    let e = sym c.read.ensures.0 ∙ c.in_default.is in
+    let e = sym c.read.ensures.0 ∙ ap told c.in_ok-read.was in
     shaped s _ e (c.read.ensures.1 e)
 
 pub returns-then-contradictory : goal.returns-then-contradictory
 returns-then-contradictory c = let s = c.args.image.now in
-    let e = sym c.read.ensures.0 ∙ c.in_default.is in
+    let e = sym c.read.ensures.0 ∙ ap told c.in_ok-read.was in
     let h = c.read.ensures.1 e in
     clashing s _ e (tested s _ _ _ _ _ c.close.ensures c.empty.ensures h c.contradictory.ensures c.if-contradictory.true)
 
 pub returns : goal.returns
 returns c = let s = c.args.image.now in
-    let e = sym c.read.ensures.0 ∙ c.in_default.is in
+    let e = sym c.read.ensures.0 ∙ ap told c.in_ok-read.was in
     let h = c.read.ensures.1 e in
     accepted s _ e (tested s _ _ _ _ _ c.close.ensures c.empty.ensures h c.contradictory.ensures c.if-contradictory.false) h

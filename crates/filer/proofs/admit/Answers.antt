@@ -1,21 +1,22 @@
 -- By what the check says, and then by the two tables.
-use mathlib.Core.Path.{sym, ◌∙◌}
+use mathlib.Core.Path.{sym, ap, ◌∙◌}
+use Rattle.layout.specs.Causes.{told}
 use Rattle.filer.proofs.Rules.{accepted_long}
 use Rattle.filer.proofs.Files.{admit_checked, admit_short, admit_few, admit_all}
 use native.Mathlib.Omega.{arith}
 use Rattle.filer.proofs.admit.Goals as goal
 
-pub returns-in-Refused : goal.returns-in-Refused
-returns-in-Refused c = admit_checked _ _ _ _ _ (sym c.check.ensures ∙ c.in-Refused.is)
+pub returns-in_err-check : goal.returns-in_err-check
+returns-in_err-check c = admit_checked _ _ _ _ _ (sym c.check.ensures ∙ ap told c.in_err-check.was)
 
 pub returns-then-room-image : goal.returns-then-room-image
-returns-then-room-image c = admit_short _ _ _ (sym c.check.ensures ∙ c.in_default.is) c.if-room-image.true
+returns-then-room-image c = admit_short _ _ _ (sym c.check.ensures ∙ ap told c.in_ok-check.was) c.if-room-image.true
 
 pub number_at-requires : goal.number_at-requires
-number_at-requires c = omega (arith, accepted_long _ (sym c.check.ensures ∙ c.in_default.is))
+number_at-requires c = omega (arith, accepted_long _ (sym c.check.ensures ∙ ap told c.in_ok-check.was))
 
 pub returns-then-entries-number_at : goal.returns-then-entries-number_at
-returns-then-entries-number_at c = admit_few _ _ _ (sym c.check.ensures ∙ c.in_default.is) c.if-room-image.false (omega (arith, c.number_at.ensures, c.if-entries-number_at.true))
+returns-then-entries-number_at c = admit_few _ _ _ (sym c.check.ensures ∙ ap told c.in_ok-check.was) c.if-room-image.false (omega (arith, c.number_at.ensures, c.if-entries-number_at.true))
 
 pub returns : goal.returns
-returns c = admit_all _ _ _ (sym c.check.ensures ∙ c.in_default.is) c.if-room-image.false (omega (arith, c.number_at.ensures, c.if-entries-number_at.false))
+returns c = admit_all _ _ _ (sym c.check.ensures ∙ ap told c.in_ok-check.was) c.if-room-image.false (omega (arith, c.number_at.ensures, c.if-entries-number_at.false))

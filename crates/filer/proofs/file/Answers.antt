@@ -1,33 +1,34 @@
 -- By what the common part says.
-use mathlib.Core.Path.{sym, ◌∙◌}
+use mathlib.Core.Path.{sym, ap, ◌∙◌}
+use Rattle.layout.specs.Causes.{told}
 use Rattle.filing.proofs.Refusals.{file_accepted}
 use Rattle.filer.proofs.Rules.{accepted_long, accepted_short}
 use Rattle.filer.proofs.Files.{file_turned, filed_front, filed_numbering, file_done}
 use native.Mathlib.Omega.{arith}
 use Rattle.filer.proofs.file.Goals as goal
 
-pub returns-in-Refused : goal.returns-in-Refused
-returns-in-Refused c = file_turned _ _ _ _ _ (sym c.admit.ensures ∙ c.in-Refused.is)
+pub returns-in_err-admit : goal.returns-in_err-admit
+returns-in_err-admit c = file_turned _ _ _ _ _ (sym c.admit.ensures ∙ ap told c.in_err-admit.was)
 
 pub number_at-rules-requires : goal.number_at-rules-requires
-number_at-rules-requires c = omega (arith, accepted_long _ (file_accepted _ _ _ (sym c.admit.ensures ∙ c.in_default.is)).0)
+number_at-rules-requires c = omega (arith, accepted_long _ (file_accepted _ _ _ (sym c.admit.ensures ∙ ap told c.in_ok-admit.was)).0)
 
 pub fill-requires : goal.fill-requires
-fill-requires c = let a = file_accepted _ _ _ (sym c.admit.ensures ∙ c.in_default.is) in
+fill-requires c = let a = file_accepted _ _ _ (sym c.admit.ensures ∙ ap told c.in_ok-admit.was) in
     (a.0, c.number_at-rules.ensures, omega (arith, a.2, c.number_at-rules.ensures))
 
 pub write-requires : goal.write-requires
-write-requires c = let e = sym c.admit.ensures ∙ c.in_default.is in
+write-requires c = let e = sym c.admit.ensures ∙ ap told c.in_ok-admit.was in
     let a = file_accepted _ _ _ e in
     let f = filed_front c.args.image.now c.args.out.now c.args.numbers.now e _ _ c.number_at-rules.ensures c.fill.ensures in
     (a.0, c.number_at-rules.ensures, omega (arith, a.2, c.number_at-rules.ensures), filed_numbering c.args.image.now c.args.out.now c.args.numbers.now e _ _ c.number_at-rules.ensures f.0, a.1)
 
 pub overflow_cast-result : goal.overflow_cast-result
-overflow_cast-result c = let a = (file_accepted _ _ _ (sym c.admit.ensures ∙ c.in_default.is)).0 in
+overflow_cast-result c = let a = (file_accepted _ _ _ (sym c.admit.ensures ∙ ap told c.in_ok-admit.was)).0 in
     omega (arith, accepted_short _ a)
 
 pub returns : goal.returns
-returns c = let e = sym c.admit.ensures ∙ c.in_default.is in
+returns c = let e = sym c.admit.ensures ∙ ap told c.in_ok-admit.was in
     let f = filed_front c.args.image.now c.args.out.now c.args.numbers.now e _ _ c.number_at-rules.ensures c.fill.ensures in
     let d = file_done c.args.image.now c.args.out.now c.args.numbers.now e _ _ f.0 c.write.ensures in
     (d.0, d.1, f.1)

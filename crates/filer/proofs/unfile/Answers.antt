@@ -1,7 +1,8 @@
 -- By what the common part says, then by the two tests.
-use mathlib.Core.Path.{sym, ◌∙◌}
+use mathlib.Core.Path.{sym, ap, ◌∙◌}
 use Prim.Native.Nat.{◌≤◌}
 use lib.ListN.{get_or-replicate}
+use Rattle.layout.specs.Causes.{told}
 use Rattle.filing.proofs.Refusals.{file_accepted}
 use Rattle.filer.proofs.Rules.{accepted_short}
 use Rattle.filer.proofs.Rules.{accepted_few, accepted_long}
@@ -10,30 +11,30 @@ use native.Mathlib.Omega.{arith}
 use borrow.Author.Rules.{rules}
 use Rattle.filer.proofs.unfile.Goals as goal
 
-pub returns-in-Refused : goal.returns-in-Refused
-returns-in-Refused c = unfile_turned c.args.image.now c.args.numbers.now c.args.out.now _ _ (unfile_first c.args.image.now c.args.numbers.now c.args.out.now _ _ (sym c.admit.ensures ∙ c.in-Refused.is))
+pub returns-in_err-admit : goal.returns-in_err-admit
+returns-in_err-admit c = unfile_turned c.args.image.now c.args.numbers.now c.args.out.now _ _ (unfile_first c.args.image.now c.args.numbers.now c.args.out.now _ _ (sym c.admit.ensures ∙ ap told c.in_err-admit.was))
 
 pub number_at-rules-requires : goal.number_at-rules-requires
-number_at-rules-requires c = omega (arith, accepted_long _ (file_accepted _ _ _ (sym c.admit.ensures ∙ c.in_default.is)).0)
+number_at-rules-requires c = omega (arith, accepted_long _ (file_accepted _ _ _ (sym c.admit.ensures ∙ ap told c.in_ok-admit.was)).0)
 
 pub invert-requires : goal.invert-requires
-invert-requires c = let a = file_accepted _ _ _ (sym c.admit.ensures ∙ c.in_default.is) in
+invert-requires c = let a = file_accepted _ _ _ (sym c.admit.ensures ∙ ap told c.in_ok-admit.was) in
     let few : c.number_at-rules.result ≤ 96 = omega (arith, (accepted_few _ a.0).0, c.number_at-rules.ensures) in
     (omega (arith, a.2, c.number_at-rules.ensures), search rules, omega arith, λ k h. get_or-replicate 96 k 255 0 (omega arith))
 
 pub returns-then-not-invert : goal.returns-then-not-invert
-returns-then-not-invert c = let e = sym c.admit.ensures ∙ c.in_default.is in
+returns-then-not-invert c = let e = sym c.admit.ensures ∙ ap told c.in_ok-admit.was in
     unfile_turned _ _ _ _ _ (unfile_numbers c.args.image.now c.args.numbers.now c.args.out.now e _ c.number_at-rules.ensures (sym c.if-not-invert.true ∙ c.invert.ensures.0))
 
 pub ascends-requires : goal.ascends-requires
-ascends-requires c = ((file_accepted _ _ _ (sym c.admit.ensures ∙ c.in_default.is)).0, c.number_at-rules.ensures)
+ascends-requires c = ((file_accepted _ _ _ (sym c.admit.ensures ∙ ap told c.in_ok-admit.was)).0, c.number_at-rules.ensures)
 
 pub returns-then-not-ascends : goal.returns-then-not-ascends
-returns-then-not-ascends c = let e = sym c.admit.ensures ∙ c.in_default.is in
+returns-then-not-ascends c = let e = sym c.admit.ensures ∙ ap told c.in_ok-admit.was in
     unfile_turned _ _ _ _ _ (unfile_form c.args.image.now c.args.numbers.now c.args.out.now e _ c.number_at-rules.ensures (sym c.if-not-ascends.true ∙ c.ascends.ensures))
 
 pub write-requires : goal.write-requires
-write-requires c = let e = sym c.admit.ensures ∙ c.in_default.is in
+write-requires c = let e = sym c.admit.ensures ∙ ap told c.in_ok-admit.was in
     let a = file_accepted _ _ _ e in
     let few : c.number_at-rules.result ≤ 96 = omega (arith, (accepted_few _ a.0).0, c.number_at-rules.ensures) in
     let fine = c.if-not-invert.false in
@@ -41,11 +42,11 @@ write-requires c = let e = sym c.admit.ensures ∙ c.in_default.is in
     (a.0, c.number_at-rules.ensures, search rules, order_numbering c.args.image.now c.args.numbers.now c.args.out.now v _ c.number_at-rules.ensures _ (search rules) (c.invert.ensures.1 fine), a.1)
 
 pub overflow_cast-result : goal.overflow_cast-result
-overflow_cast-result c = let e = sym c.admit.ensures ∙ c.in_default.is in
+overflow_cast-result c = let e = sym c.admit.ensures ∙ ap told c.in_ok-admit.was in
     omega (arith, accepted_short _ (file_accepted _ _ _ e).0)
 
 pub returns : goal.returns
-returns c = let e = sym c.admit.ensures ∙ c.in_default.is in
+returns c = let e = sym c.admit.ensures ∙ ap told c.in_ok-admit.was in
     let a = file_accepted _ _ _ e in
     let few : c.number_at-rules.result ≤ 96 = omega (arith, (accepted_few _ a.0).0, c.number_at-rules.ensures) in
     let fine = c.if-not-invert.false in

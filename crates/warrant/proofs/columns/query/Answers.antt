@@ -1,23 +1,24 @@
 -- `columns::query` meets its contract: cause by cause, then the answer in the program.
-use mathlib.Core.Path.{sym, ◌∙◌}
+use mathlib.Core.Path.{sym, ap, ◌∙◌}
 use native.Mathlib.Nat.{le_trans}
+use Rattle.layout.specs.Causes.{told}
 use Rattle.warrant.proofs.Queries.{held_in, query_image, query_20, query_21, query_22, query_settled}
 use Rattle.warrant.proofs.columns.query.Goals as goal
 
-pub returns-in-Refused : goal.returns-in-Refused
-returns-in-Refused c = query_image c.args.image.now _ _ c.args.arguments.now _ _ _ (sym c.load.ensures.0 ∙ c.in-Refused.is) _
+pub returns-in_err-load : goal.returns-in_err-load
+returns-in_err-load c = query_image c.args.image.now _ _ c.args.arguments.now _ _ _ (sym c.load.ensures.0 ∙ ap told c.in_err-load.was) _
 
 pub returns-then-literal-ge128 : goal.returns-then-literal-ge128
-returns-then-literal-ge128 c = query_20 c.args.image.now _ _ c.args.arguments.now _ (sym c.load.ensures.0 ∙ c.in_default.is) c.if-literal-ge128.true _
+returns-then-literal-ge128 c = query_20 c.args.image.now _ _ c.args.arguments.now _ (sym c.load.ensures.0 ∙ ap told c.in_ok-load.was) c.if-literal-ge128.true _
 
 pub returns-then-budget-gt4096 : goal.returns-then-budget-gt4096
-returns-then-budget-gt4096 c = query_21 c.args.image.now _ _ c.args.arguments.now _ (sym c.load.ensures.0 ∙ c.in_default.is) c.if-literal-ge128.false c.if-budget-gt4096.true _
+returns-then-budget-gt4096 c = query_21 c.args.image.now _ _ c.args.arguments.now _ (sym c.load.ensures.0 ∙ ap told c.in_ok-load.was) c.if-literal-ge128.false c.if-budget-gt4096.true _
 
 pub returns-then-room-budget : goal.returns-then-room-budget
-returns-then-room-budget c = query_22 c.args.image.now _ _ c.args.arguments.now _ (sym c.load.ensures.0 ∙ c.in_default.is) c.if-literal-ge128.false c.if-budget-gt4096.false c.if-room-budget.true _
+returns-then-room-budget c = query_22 c.args.image.now _ _ c.args.arguments.now _ (sym c.load.ensures.0 ∙ ap told c.in_ok-load.was) c.if-literal-ge128.false c.if-budget-gt4096.false c.if-room-budget.true _
 
 pub query-requires : goal.query-requires
-query-requires c = let e = sym c.load.ensures.0 ∙ c.in_default.is in
+query-requires c = let e = sym c.load.ensures.0 ∙ ap told c.in_ok-load.was in
     let limit = c.if-budget-gt4096.false in
     record {
       held = held_in c.args.image.now _ e (c.load.ensures.1 e);
@@ -32,5 +33,5 @@ query-requires c = let e = sym c.load.ensures.0 ∙ c.in_default.is in
     }
 
 pub returns : goal.returns
-returns c = let e = sym c.load.ensures.0 ∙ c.in_default.is in
+returns c = let e = sym c.load.ensures.0 ∙ ap told c.in_ok-load.was in
     query_settled c.args.image.now _ _ c.args.arguments.now _ e c.if-literal-ge128.false c.if-budget-gt4096.false c.if-room-budget.false _ _ _ _ (c.query.ensures (held_in c.args.image.now _ e (c.load.ensures.1 e)))
