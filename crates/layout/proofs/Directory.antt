@@ -11,14 +11,13 @@ use native.Mathlib.Omega.{arith}
 use lib.ListN.{length}
 use lib.Dec.{ltb, eqb}
 use borrow.Author.Tests.{eqb-true, eq-eqb, ne_eqb, lt-ltb, le-ltb, ltb-false, not-false}
-use Rattle.literals.proofs.Tests.{and_left, and_right}
-use Rattle.layout.specs.declared.header.Header.TheVariants as header
+use Rattle.literals.proofs.Tests.{and_left, and_right, or_left, or_right}
+use Rattle.std.specs.Prelude.{None, Some, Ok}
+use Rattle.layout.specs.declared.Cause.TheVariants.{ImageLength, Header}
 use Rattle.layout.specs.Layout.{number_at, atoms_of, rules_of, pair_count_of, offset_of, size_of}
-use Rattle.layout.specs.Causes.{refuse, and_then, bad_length, bad_counts, parts_follow, bad_directory}
+use Rattle.layout.specs.Causes.{refused, bad_length, bad_counts, parts_follow, bad_directory}
 use Rattle.layout.specs.declared.cursor.Cursor.{Cursor}
-use Rattle.layout.specs.declared.cursor.Follow.TheVariants as follow
-use Rattle.lists.specs.Lists.{choose}
-use Rattle.layout.specs.Inside.Steps.{cursor_at, header_with, header_by, header_of, follow_from, Along, PartAt, Located}
+use Rattle.layout.specs.Inside.Steps.{cursor_at, header_of, follow_from, Along, PartAt, Located}
 use Rattle.layout.proofs.Cursors.{Follow-is, follow_is, broken_is}
 
 -- ---- neither of two tests
@@ -29,6 +28,9 @@ neither_left false b e = refl
 pub neither_right : (a b : Bool) → (a || b) ≡ false → b ≡ false
 neither_right true b e = absurd (let z : ◌≡◌ {A = ℕ} 0 1 = cc in omega arith)
 neither_right false b e = e
+
+pub neither : {a b : Bool} → a ≡ false → b ≡ false → (a || b) ≡ false
+neither p q = rw (p, q) refl
 
 -- ---- the entries from entry i to entry n
 module _ (s : List ℕ) (ends i n : ℕ) (more : i < n) where
@@ -113,7 +115,7 @@ module _ (s : List ℕ) (c : Cursor) (ends i : ℕ) (a : Along s c ends i) where
         ∙ ap (λ (n : ℕ). parts_follow s n (i + 1) (rules_of s + 1 - (i + 1))) (omega arith)
 
     -- a part that does not follow is cause 3
-    pub along_broken : follow_from s c.at ends ≡ follow.Broken → bad_directory s ≡ true
+    pub along_broken : follow_from s c.at ends ≡ None → bad_directory s ≡ true
     along_broken e = go (dec_lt (length s) (c.at + 4)) (ℕ_discrete (offset_of s i) ends) (dec_lt (length s) (ends + size_of s i))
       where
         go : Dec (length s < c.at + 4) → Dec (offset_of s i ≡ ends) → Dec (length s < ends + size_of s i) → bad_directory s ≡ true
@@ -124,7 +126,7 @@ module _ (s : List ℕ) (c : Cursor) (ends i : ℕ) (a : Along s c ends i) where
             absurd (broken_is s c.at ends e (record { room = omega arith; begins = begins_at_lem ∙ q; inside = omega (arith, size_at) }))
 
     -- one that does leads to the next entry
-    module _ (to : ℕ) (next : Cursor) (e : follow_from s c.at ends ≡ follow.Read to next) where
+    module _ (to : ℕ) (next : Cursor) (e : follow_from s c.at ends ≡ Some (to, next)) where
       read : Follow-is s c.at ends to next
       read = follow_is s c.at ends to next e
 
@@ -171,30 +173,41 @@ module _ (s : List ℕ) (c : Cursor) (ends i : ℕ) (a : Along s c ends i) where
 
 -- ---- one law for each answer of the header
 module _ (s : List ℕ) where
-  header_by_lem : (one : Bool) → bad_length s ≡ one → header_of s ≡ header_by (and_then (refuse one 1 0) (refuse (bad_counts s) 2 0)) s
+  header_long_lem : bad_length s ≡ true → refused ImageLength 0 ≡ header_of s
   unfolding header_of
-  header_by_lem one e = ap (λ (b : Bool). header_by (and_then (refuse b 1 0) (refuse (bad_counts s) 2 0)) s) e
+  header_long_lem e = rw e refl
 
-  pub header_short : length s < 12 → header.Refused 1 0 ≡ header_of s
-  header_short h = sym (header_by_lem true (ap (λ (b : Bool). b || ltb 1836 (length s)) (lt-ltb (length s) 12 h)))
+  pub header_short : length s < 12 → refused ImageLength 0 ≡ header_of s
+  header_short h = header_long_lem (or_left _ _ (lt-ltb (length s) 12 h))
 
-  pub header_long : 12 ≤ length s → 1836 < length s → header.Refused 1 0 ≡ header_of s
-  header_long l h =
-      sym (header_by_lem true (ap (λ (b : Bool). b || ltb 1836 (length s)) (le-ltb (length s) 12 l) ∙ lt-ltb 1836 (length s) h))
+  pub header_long : 1836 < length s → refused ImageLength 0 ≡ header_of s
+  header_long h = header_long_lem (or_right _ _ (lt-ltb 1836 (length s) h))
 
   module _ (long : 12 ≤ length s) (short : length s ≤ 1836) where
     pub length_fine : bad_length s ≡ false
-    length_fine = ap (λ (b : Bool). b || ltb 1836 (length s)) (le-ltb (length s) 12 long) ∙ le-ltb 1836 (length s) short
+    length_fine = neither (le-ltb (length s) 12 long) (le-ltb 1836 (length s) short)
 
-    -- by the counts that are read
-    pub header_fields : (atoms rules pairs zeros : ℕ) (next : Cursor) → atoms ≡ atoms_of s → rules ≡ rules_of s → pairs ≡ pair_count_of s → zeros ≡ number_at s 6 → next.at ≡ 8 → header_with atoms rules pairs zeros next ≡ header_of s
-    header_fields atoms rules pairs zeros next ea er ep ez en =
-        rw (ea, er, ep, ez, en) (go (bad_counts s) refl)
-      where
-        go : (b : Bool) → bad_counts s ≡ b → header_with (atoms_of s) (rules_of s) (pair_count_of s) (number_at s 6) (cursor_at 8) ≡ header_of s
-        go true e =
-            ap (λ (t : Bool). choose t (header.Refused 2 0) (header.Read (record { atoms = atoms_of s; rules = rules_of s; pairs = pair_count_of s }) (cursor_at 8))) e
-            ∙ sym (header_by_lem false length_fine ∙ ap (λ (t : Bool). header_by (refuse t 2 0) s) e)
-        go false e =
-            ap (λ (t : Bool). choose t (header.Refused 2 0) (header.Read (record { atoms = atoms_of s; rules = rules_of s; pairs = pair_count_of s }) (cursor_at 8))) e
-            ∙ sym (header_by_lem false length_fine ∙ ap (λ (t : Bool). header_by (refuse t 2 0) s) e)
+    module _ (atoms rules pairs zeros : ℕ) (ea : atoms ≡ atoms_of s) (er : rules ≡ rules_of s) (ep : pairs ≡ pair_count_of s) (ez : zeros ≡ number_at s 6) where
+      abbrev over : Bool
+      over = ltb 64 atoms || (ltb 96 rules || (ltb 240 pairs || not (eqb zeros 0)))
+
+      counts_are : over ≡ bad_counts s
+      counts_are = rw (ea, er, ep, ez) refl
+
+      -- one of the four tests refuses the counts, or none
+      pub header_bad : (64 < atoms) ⊎ ((atoms ≤ 64 × 96 < rules) ⊎ ((atoms ≤ 64 × rules ≤ 96 × 240 < pairs) ⊎ (atoms ≤ 64 × rules ≤ 96 × pairs ≤ 240 × (zeros ≡ 0 → ⊥)))) → refused Header 0 ≡ header_of s
+      unfolding header_of
+      header_bad h = rw (length_fine, ← counts_are, go h) refl
+        where
+          go : (64 < atoms) ⊎ ((atoms ≤ 64 × 96 < rules) ⊎ ((atoms ≤ 64 × rules ≤ 96 × 240 < pairs) ⊎ (atoms ≤ 64 × rules ≤ 96 × pairs ≤ 240 × (zeros ≡ 0 → ⊥)))) → over ≡ true
+          go (inl h) = or_left _ _ (lt-ltb 64 atoms h)
+          go (inr (inl h)) = or_right (ltb 64 atoms) _ (or_left _ _ (lt-ltb 96 rules h.1))
+          go (inr (inr (inl h))) = or_right (ltb 64 atoms) _ (or_right (ltb 96 rules) _ (or_left _ _ (lt-ltb 240 pairs h.2)))
+          go (inr (inr (inr h))) = or_right (ltb 64 atoms) _ (or_right (ltb 96 rules) _ (or_right (ltb 240 pairs) _ (ap not (ne_eqb zeros 0 h.3))))
+
+      pub header_fine : atoms ≤ 64 → rules ≤ 96 → pairs ≤ 240 → zeros ≡ 0 → (next : Cursor) → next.at ≡ 8 → Ok (record { atoms = atoms; rules = rules; pairs = pairs }, next) ≡ header_of s
+      unfolding header_of
+      header_fine a r p z next n =
+          let fine : bad_counts s ≡ false = sym counts_are ∙ neither (le-ltb 64 atoms a) (neither (le-ltb 96 rules r) (neither (le-ltb 240 pairs p) (ap not (eq-eqb zeros 0 z)))) in
+          let q : next ≡ cursor_at 8 = ap cursor_at n in
+          rw (length_fine, fine, ea, er, ep, q) refl

@@ -2,84 +2,41 @@
 ghost use Rattle.std.specs.Prelude.{◌≡◌, not, ◌≤◌};
 ghost use Rattle.layout.specs.Layout.{rules_of};
 ghost use Rattle.layout.specs.Causes.{bad_directory};
-ghost use Rattle.layout.specs.Inside.Steps.{header_with, header_of, Along};
+ghost use Rattle.layout.specs.Inside.Steps.{header_of, Along};
 
-use crate::Verdict;
-use crate::cursor::{Cursor, Follow, Numbers};
+use crate::cursor::Cursor;
+use crate::{Cause, Refusal};
 
 // How many atoms, rules and preference pairs the image says it has.
-#[derive(Clone, Copy)]
+#[derive(Clone, Copy, PartialEq, Eq, Debug)]
 pub struct Counts {
     pub atoms: usize,
     pub rules: usize,
     pub pairs: usize,
 }
 
-// The counts with the cursor after them, or the first of causes 1 and 2 that applies.
-#[derive(Clone, Copy)]
-pub enum Header {
-    Read { counts: Counts, next: Cursor },
-    Refused { number: u32, place: u32 },
-}
-
-// A cause of the whole image.
-fn refused(number: u32) -> Header
-    ensures { result ≡ Header.Refused number 0 }
-{
-    Header::Refused { number, place: 0 }
-}
-
-// Reads the counts. An image that ends before them is shorter than any may be.
-pub fn read(image: &[u8]) -> Header
+// Reads the counts, with the cursor after them. An image that ends before them is shorter than any may be.
+pub fn read(image: &[u8]) -> Result<(Counts, Cursor), Refusal>
     ensures { result ≡ header_of image.now }
 {
-    let Numbers::Read {
-        first: atoms,
-        second: rules,
-        next: middle,
-    } = Cursor::start().numbers(image)
-    else {
-        return refused(Verdict::IMAGE_LENGTH);
-    };
-    let Numbers::Read {
-        first: pairs,
-        second: zero,
-        next,
-    } = middle.numbers(image)
-    else {
-        return refused(Verdict::IMAGE_LENGTH);
-    };
+    let length = Cause::ImageLength.at(0);
+    let (atoms, rules, middle) = Cursor::start().numbers(image).ok_or(length)?;
+    let (pairs, zero, next) = middle.numbers(image).ok_or(length)?;
     if image.len() < 12 {
-        return refused(Verdict::IMAGE_LENGTH);
+        return Err(length);
     }
     if 1836 < image.len() {
-        return refused(Verdict::IMAGE_LENGTH);
+        return Err(length);
     }
-    within_limits(atoms, rules, pairs, zero, next)
-}
-
-// The header where each count is within its limit, or cause 2.
-fn within_limits(atoms: u16, rules: u16, pairs: u16, zero: u16, next: Cursor) -> Header
-    ensures { result ≡ header_with atoms rules pairs zero next }
-{
-    if 64 < atoms {
-        return refused(Verdict::HEADER);
-    }
-    if 96 < rules {
-        return refused(Verdict::HEADER);
-    }
-    if 240 < pairs {
-        return refused(Verdict::HEADER);
-    }
-    if zero != 0 {
-        return refused(Verdict::HEADER);
+    if 64 < atoms || 96 < rules || 240 < pairs || zero != 0 {
+        return Err(Cause::Header.at(0));
     }
     let counts = Counts {
-        atoms: atoms as usize,
-        rules: rules as usize,
-        pairs: pairs as usize,
+        atoms: usize::from(atoms),
+        rules: usize::from(rules),
+        pairs: usize::from(pairs),
     };
-    Header::Read { counts, next }
+    Ok((counts, next))
 }
 
 // The directory is sound, where the cursor stands at entry `first` and the part before that one ends at `end`.
@@ -89,14 +46,12 @@ pub fn directory_sound(image: &[u8], rules: usize, start: Cursor, first: usize, 
 {
     let mut cursor = start;
     let mut ends = end;
-    let mut i = first;
-    while i < rules + 1 {
-        let Follow::Read { to, next } = cursor.follow(image, ends) else {
+    for i in first..rules + 1 {
+        let Some((to, next)) = cursor.follow(image, ends) else {
             return false;
         };
         ends = to;
         cursor = next;
-        i += 1;
     }
     ends == image.len()
 }

@@ -3,4 +3,4 @@ use Rattle.layout.proofs.Cursors.{number_joined}
 use Rattle.layout.proofs.cursor.number_at.Goals as goal
 
 pub returns : goal.returns
-returns c = number_joined c.args.image.now c.args.at _ _ c.wide.ensures.0 c.wide-2.ensures.0
+returns c = number_joined c.args.image.now c.args.at _ _ c.from.ensures c.from-2.ensures

@@ -1,10 +1,6 @@
 -- What is left from entry i on decides the whole.
-use Prim.Native.Nat.{◌+◌, ◌-◌}
 use Rattle.layout.specs.Inside.Steps.{Along}
 use Rattle.layout.proofs.header.directory_sound.Given as goal
 
 abbrev pub invariant-loop-i : goal.invariant-loop-i
 invariant-loop-i l = Along l.image l.cursor l.ends l.i
-
-abbrev pub decreases-loop-i : goal.decreases-loop-i
-decreases-loop-i l = l.rules + 1 - l.i
