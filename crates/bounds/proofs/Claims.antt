@@ -8,7 +8,7 @@ use native.Mathlib.Omega.{arith}
 use lib.ListN.{length, take, get_or, replicate, length-map, length-replicate, get_or-map}
 use lib.Seq.{get_or-take}
 use Rattle.program.specs.Program.{Program}
-use Rattle.layout.specs.Causes.{Accepted}
+use Rattle.calls.specs.Verdicts.{Accepted}
 use Rattle.layout.specs.Reading.{program_in}
 use Rattle.derivation.specs.Derivation.{complement, HeadsBelow}
 use Rattle.argument.specs.Argument.{mask_of, literal_of, ArgumentList}

@@ -1,7 +1,7 @@
 -- More budget, and how long a quarrel can get (document 02, C-18): what is claimed. proofs/Claims.antt proves it.
 use Rattle.std.specs.Prelude.{◌≡◌, List, [], ◌↔◌, ℕ, ◌-◌, ◌^◌, ◌≤◌, ◌<◌, length, take, replicate}
 use Rattle.program.specs.Program.{Rule, Program, defeasibles}
-use Rattle.layout.specs.Causes.{Accepted}
+use Rattle.calls.specs.Verdicts.{Accepted}
 use Rattle.layout.specs.Reading.{program_in}
 use Rattle.argument.specs.Argument.{ArgumentList}
 use Rattle.defeat.specs.OfProgram.{frame_of}

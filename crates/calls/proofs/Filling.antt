@@ -6,8 +6,8 @@ use Prim.Native.Nat.{ℕ, ◌≤◌, ◌<◌}
 use native.Mathlib.Omega.{arith}
 use lib.ListN.{length, drop}
 use lib.Seq.{take_at, drop_at}
-use Rattle.layout.specs.Causes.{Verdict, Accepted, Refused}
-use Rattle.layout.specs.Causes.{refuse, and_then}
+use Rattle.calls.specs.Verdicts.{Verdict, Accepted, Refused}
+use Rattle.calls.specs.Verdicts.{refuse, and_then}
 use Rattle.nodes.proofs.Rows.{front_length}
 use Rattle.calls.specs.Outcomes.{by_verdict}
 use Rattle.calls.specs.Calls.{check_image, front, unless_refused, count_number}

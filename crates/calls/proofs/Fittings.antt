@@ -7,8 +7,8 @@ use lib.ListN.{take, drop, replicate}
 use Rattle.lists.specs.Lists.{upto}
 use Rattle.literals.specs.Sets.{has, insert, clash_below}
 use Rattle.program.specs.Program.{defeasibles_from, chosen_from}
-use Rattle.layout.specs.Causes.{Verdict}
-use Rattle.layout.specs.Causes as verdicts
+use Rattle.calls.specs.Verdicts.{Verdict}
+use Rattle.calls.specs.Verdicts as verdicts
 use Rattle.layout.specs.Layout.{number_at}
 use Rattle.layout.specs.Causes.{verdict}
 use Rattle.layout.specs.Reading.{program_in}

@@ -10,9 +10,9 @@ use borrow.Author.Tests.{leb-true, leb-false, lt-ltb, le-ltb}
 use Rattle.lists.specs.Lists.{choose}
 use Rattle.listing.specs.declared.Listed.TheVariants as parts
 use Rattle.listing.specs.Inside.Listing.{listed as listedIn, with_list}
-use Rattle.layout.specs.Causes.{Verdict}
-use Rattle.layout.specs.Causes as verdicts
-use Rattle.layout.specs.Causes.{refuse, and_then}
+use Rattle.calls.specs.Verdicts.{Verdict}
+use Rattle.calls.specs.Verdicts as verdicts
+use Rattle.calls.specs.Verdicts.{refuse, and_then}
 use Rattle.calls.specs.Outcomes as outcomes
 use Rattle.calls.specs.Outcomes.{by_verdict}
 use Rattle.calls.specs.Calls.{check_image, list_in, list_verdict, listed, front, unless_refused, list_table}

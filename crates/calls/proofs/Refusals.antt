@@ -11,9 +11,12 @@ use lib.Dec.{T, ltb, leb, leb→le, le→leb, ltb→lt, lt→ltb, nltb→le, nle
 use Rattle.lists.proofs.Lists.{T_true}
 use Rattle.literals.proofs.Tests.{true_T, not_true_false}
 use Rattle.program.specs.Program.{Π}
-use Rattle.layout.specs.Causes.{Verdict, Accepted, Refused}
+use Rattle.calls.specs.Verdicts.{Verdict, Accepted, Refused}
 use Rattle.layout.specs.Layout.{atoms_of, rules_of, pair_count_of, part_of}
-use Rattle.layout.specs.Causes.{refuse, and_then, bad_length, bad_counts, bad_directory, bad_size, bad_kind, bad_literal}
+use Rattle.layout.specs.Causes.{bad_length, bad_counts, bad_directory, bad_size, bad_kind, bad_literal}
+use Rattle.layout.specs.declared.Cause.TheVariants as causes_of
+use Rattle.layout.specs.Causes as images
+use Rattle.calls.specs.Verdicts.{told, refuse, and_then}
 use Rattle.layout.specs.Causes.{bad_body, bad_empty}
 use Rattle.layout.specs.Causes.{bad_seventeenth, bad_repeat, bad_pairs, bad_pair, bad_order}
 use Rattle.layout.specs.Causes.{part_verdict, rule_verdict, rules_verdict, pair_verdict, pairs_verdict, verdict}
@@ -33,7 +36,7 @@ use Rattle.calls.specs.Causes.{ListCause, QueryCause, defeasible_before}
 use Rattle.calls.specs.Causes as causes
 use Rattle.calls.proofs.Verdicts.{Causes, Either, Only, only_to, judged_one, judged_then, judged_same, Spans, only_spans}
 use Rattle.calls.proofs.Verdicts.{either_spans, Cut, late_cut, Turn, turn_one, turn_then, Of, From, from_none, from_judged}
-use Rattle.calls.proofs.Verdicts.{Sited, judged_once}
+use Rattle.calls.proofs.Verdicts.{Sited, judged_once, told_accepted, told_one, told_judged}
 
 -- ---- what is accepted
 
@@ -52,13 +55,13 @@ within_of : (m n : ℕ) → ltb m n ≡ false → n ≤ m
 within_of m n e = nltb→le m n (rw e tt)
 
 pub check_accepted : (s : List ℕ) → check_image s ≡ Accepted
-    → (verdict s ≡ Accepted) × (contradictory (Π (program_in s).rules) ≡ false)
+    → (verdict s ≡ images.accepted) × (contradictory (Π (program_in s).rules) ≡ false)
 unfolding check_image
 check_accepted s e =
     let k = then_accepted _ _ e in
-    (k.0, refuse_accepted (contradictory (Π (program_in s).rules)) 14 0 k.1)
+    (told_accepted (verdict s) k.0, refuse_accepted (contradictory (Π (program_in s).rules)) 14 0 k.1)
 
-pub check_passes : (s : List ℕ) → verdict s ≡ Accepted → contradictory (Π (program_in s).rules) ≡ false
+pub check_passes : (s : List ℕ) → verdict s ≡ images.accepted → contradictory (Π (program_in s).rules) ≡ false
     → check_image s ≡ Accepted
 unfolding check_image
 check_passes s e c = rw (e, c)
@@ -94,17 +97,17 @@ query_accepted s h b al nl e =
 
 -- the program of an accepted image has heads below 128
 module _ (s : List ℕ) where
-  pub read_heads : verdict s ≡ Accepted → HeadsBelow 128 (program_in s).rules
+  pub read_heads : verdict s ≡ images.accepted → HeadsBelow 128 (program_in s).rules
   read_heads e = limits_heads (accepted_limits s e)
 
   pub checked_heads : check_image s ≡ Accepted → HeadsBelow 128 (program_in s).rules
   checked_heads e = read_heads (check_accepted s e).0
 
-  strict_heads : verdict s ≡ Accepted → HeadsBelow 128 (Π (program_in s).rules)
+  strict_heads : verdict s ≡ images.accepted → HeadsBelow 128 (Π (program_in s).rules)
   strict_heads e r i = read_heads e r (Π_with_rules (program_in s).rules (λ _. false) r i)
 
   -- 14: "Π contradictory", as published
-  pub check_coherent : (check_image s ≡ Accepted) ↔ ((verdict s ≡ Accepted) × (¬ Contradictory (Π (program_in s).rules)))
+  pub check_coherent : (check_image s ≡ Accepted) ↔ ((verdict s ≡ images.accepted) × (¬ Contradictory (Π (program_in s).rules)))
   check_coherent = (
     λ e.
         let k = check_accepted s e in
@@ -164,13 +167,13 @@ module _ (s : List ℕ) where
     unfolding rule_verdict part_verdict
     looked =
         turn_then 3 9 10 (omega arith) (omega arith)
-        (turn_then 3 4 9 (omega arith) (omega arith) (turn_one (bad_size part) 4 i 3 4 (omega arith) (omega arith))
-        (turn_then 4 5 9 (omega arith) (omega arith) (turn_one (bad_kind part) 5 i 4 5 (omega arith) (omega arith))
-        (turn_then 5 6 9 (omega arith) (omega arith) (turn_one (bad_literal (atoms_of s) part) 6 i 5 6 (omega arith) (omega arith))
-        (turn_then 6 7 9 (omega arith) (omega arith) (turn_one (bad_body part) 7 i 6 7 (omega arith) (omega arith))
-        (turn_then 7 8 9 (omega arith) (omega arith) (turn_one (bad_empty part) 8 i 7 8 (omega arith) (omega arith))
-        (turn_one (bad_seventeenth (defeasible_before s i) part) 9 i 8 9 (omega arith) (omega arith)))))))
-        (turn_one (bad_repeat s i) 10 i 9 10 (omega arith) (omega arith))
+        (turn_then 3 4 9 (omega arith) (omega arith) (turn_one (bad_size part) causes_of.RuleLength i 3 4 (omega arith) (omega arith))
+        (turn_then 4 5 9 (omega arith) (omega arith) (turn_one (bad_kind part) causes_of.RuleKind i 4 5 (omega arith) (omega arith))
+        (turn_then 5 6 9 (omega arith) (omega arith) (turn_one (bad_literal (atoms_of s) part) causes_of.LiteralRange i 5 6 (omega arith) (omega arith))
+        (turn_then 6 7 9 (omega arith) (omega arith) (turn_one (bad_body part) causes_of.BodyOrder i 6 7 (omega arith) (omega arith))
+        (turn_then 7 8 9 (omega arith) (omega arith) (turn_one (bad_empty part) causes_of.DefeasibleWithoutBody i 7 8 (omega arith) (omega arith))
+        (turn_one (bad_seventeenth (defeasible_before s i) part) causes_of.TooManyDefeasible i 8 9 (omega arith) (omega arith)))))))
+        (turn_one (bad_repeat s i) causes_of.RepeatedRule i 9 10 (omega arith) (omega arith))
 
     looked_of : (n p : ℕ) → Looked n p → OfOneRule i n p
     looked_of n p =
@@ -195,7 +198,7 @@ module _ (s : List ℕ) where
         go (causes.seventeenth t) = inl (inr (inr (inr (inr (inr (refl, e, t))))))
         go (causes.repeated t) = inr (refl, e, t)
 
-    rule_judged : Judged (OfOneRule i) (rule_verdict s (defeasible_before s i) i)
+    rule_judged : Judged (OfOneRule i) (told (rule_verdict s (defeasible_before s i) i))
     rule_judged = judged_same looked_of of_looked looked.judged
 
     abbrev Paired : Causes
@@ -213,19 +216,19 @@ module _ (s : List ℕ) where
         go (causes.names t) = inl (refl, e, t)
         go (causes.order t) = inr (refl, e, t)
 
-    pair_judged : Judged (OfOnePair i) (pair_verdict s i)
+    pair_judged : Judged (OfOnePair i) (told (pair_verdict s i))
     unfolding pair_verdict
     pair_judged =
         judged_same paired_of of_paired
-        (turn_then 11 12 13 (omega arith) (omega arith) (turn_one (bad_pair s i) 12 i 11 12 (omega arith) (omega arith))
-        (turn_one (bad_order s i) 13 i 12 13 (omega arith) (omega arith))).judged
+        (turn_then 11 12 13 (omega arith) (omega arith) (turn_one (bad_pair s i) causes_of.PairNames i 11 12 (omega arith) (omega arith))
+        (turn_one (bad_order s i) causes_of.PairOrder i 12 13 (omega arith) (omega arith))).judged
 
-  rules_judged : (i n : ℕ) → Judged (OfRules i n) (rules_verdict s (defeasible_before s i) i n)
+  rules_judged : (i n : ℕ) → Judged (OfRules i n) (told (rules_verdict s (defeasible_before s i) i n))
   unfolding rules_verdict defeasible_before
   rules_judged i zero = from_none (RuleCause s) rule_turn i
   rules_judged i (suc n) = from_judged (RuleCause s) rule_turn i n (rule_judged i) (rules_judged (suc i) n)
 
-  pairs_judged : (j n : ℕ) → Judged (OfPairs j n) (pairs_verdict s j n)
+  pairs_judged : (j n : ℕ) → Judged (OfPairs j n) (told (pairs_verdict s j n))
   unfolding pairs_verdict
   pairs_judged j zero = from_none (PairCause s) pair_turn j
   pairs_judged j (suc n) = from_judged (PairCause s) pair_turn j n (pair_judged j) (pairs_judged (suc j) n)
@@ -280,25 +283,25 @@ module _ (s : List ℕ) where
   low_cut : (a : ℕ) → a ≤ 3 → Cut a
   low_cut a h = (inl h, inl (omega arith))
 
-  read_judged : Judged Read (verdict s)
+  read_judged : Judged Read (told (verdict s))
   unfolding verdict defeasible_before
   read_judged =
-      judged_then (late_cut 0 1 13 (low_cut 1 (omega arith)) (only_spans (bad_length s) 1 0 0 1 (omega arith) (omega arith)) header_span)
-      (judged_one (bad_length s) 1 0) (λ _.
-      judged_then (late_cut 1 2 13 (low_cut 2 (omega arith)) (only_spans (bad_counts s) 2 0 1 2 (omega arith) (omega arith)) parts_span)
-      (judged_one (bad_counts s) 2 0) (λ _.
-      judged_then (late_cut 2 3 13 (low_cut 3 (omega arith)) (only_spans (bad_directory s) 3 0 2 3 (omega arith) (omega arith)) all_span)
-      (judged_one (bad_directory s) 3 0) (λ _.
-      judged_then (late_cut 3 10 13 (inr (omega arith), inl (omega arith)) rules_span last_span) (rules_judged 0 (rules_of s)) (λ _.
-      judged_then (late_cut 10 11 13 (inr (omega arith), inl (omega arith)) (only_spans (bad_pairs s) 11 0 10 11 (omega arith) (omega arith)) pairs_span)
-      (judged_one (bad_pairs s) 11 0) (λ _. pairs_judged 0 (pair_count_of s))))))
+      told_judged (late_cut 0 1 13 (low_cut 1 (omega arith)) (only_spans (bad_length s) 1 0 0 1 (omega arith) (omega arith)) header_span)
+      (told_one (bad_length s) causes_of.ImageLength 0) (λ _.
+      told_judged (late_cut 1 2 13 (low_cut 2 (omega arith)) (only_spans (bad_counts s) 2 0 1 2 (omega arith) (omega arith)) parts_span)
+      (told_one (bad_counts s) causes_of.Header 0) (λ _.
+      told_judged (late_cut 2 3 13 (low_cut 3 (omega arith)) (only_spans (bad_directory s) 3 0 2 3 (omega arith) (omega arith)) all_span)
+      (told_one (bad_directory s) causes_of.Directory 0) (λ _.
+      told_judged (late_cut 3 10 13 (inr (omega arith), inl (omega arith)) rules_span last_span) (rules_judged 0 (rules_of s)) (λ _.
+      told_judged (late_cut 10 11 13 (inr (omega arith), inl (omega arith)) (only_spans (bad_pairs s) 11 0 10 11 (omega arith) (omega arith)) pairs_span)
+      (told_one (bad_pairs s) causes_of.LastPartLength 0) (λ _. pairs_judged 0 (pair_count_of s))))))
 
   -- ---- 14
 
   abbrev Clashing : Causes
   Clashing n p = (n ≡ 14) × (p ≡ 0) × Contradictory (Π (program_in s).rules)
 
-  clashing_judged : verdict s ≡ Accepted → Judged Clashing (refuse (contradictory (Π (program_in s).rules)) 14 0)
+  clashing_judged : verdict s ≡ images.accepted → Judged Clashing (refuse (contradictory (Π (program_in s).rules)) 14 0)
   clashing_judged e =
       judged_same
       (λ n p (a, b, t). (a, b, contradictory_sound (Π (program_in s).rules) (T_true (contradictory (Π (program_in s).rules)) t)))
@@ -327,7 +330,7 @@ module _ (s : List ℕ) where
   of_image n p (causes.contradictory c) = inr (refl, refl, c)
 
   -- reading looks for 1 to 13 alone
-  pub reading_judged : Judged (λ n p. (n < 14) × ImageCause s n p) (verdict s)
+  pub reading_judged : Judged (λ n p. (n < 14) × ImageCause s n p) (told (verdict s))
   reading_judged = judged_same (λ n p c. (let k = (read_span n p c).1 in omega arith, image_of n p (inl c))) back read_judged
     where
       back : (n p : ℕ) → (n < 14) × ImageCause s n p → Read n p
@@ -338,7 +341,7 @@ module _ (s : List ℕ) where
   check_judged =
       judged_same image_of of_image
       (judged_then (late_cut 0 13 14 (inr (omega arith), inr (omega arith)) read_span (λ n p (a, b, c). (omega arith, omega arith)))
-      read_judged clashing_judged)
+      read_judged (λ e. clashing_judged (told_accepted (verdict s) e)))
 
   -- ---- the list call and those that answer
 

@@ -9,8 +9,13 @@ use native.Mathlib.Omega.{arith}
 use lib.Dec.{T, ltb, leb}
 use lib.ListN.{length}
 use borrow.Author.Tests.{ltb-true, ltb-false, leb-true, leb-false}
-use Rattle.layout.specs.Causes.{Verdict, Accepted, Refused}
-use Rattle.layout.specs.Causes.{refuse, and_then}
+use Rattle.calls.specs.Verdicts.{Verdict, Accepted, Refused}
+use Rattle.calls.specs.Verdicts.{told, refuse, and_then}
+use Rattle.std.specs.Prelude.{Result, Ok, Err}
+use Rattle.layout.specs.declared.Cause.{Cause}
+use Rattle.layout.specs.declared.Refusal.{Refusal}
+use Rattle.layout.specs.Causes.{number_of}
+use Rattle.layout.specs.Causes as parts
 use Rattle.nodes.proofs.Rows.{front_length}
 use Rattle.calls.specs.Calls.{front, unless_refused}
 use Rattle.calls.specs.Causes.{OfRule, OfPair, InTurn, Earlier, by_number, by_place, at_place, Judged, accepted, refused}
@@ -60,6 +65,28 @@ pub judged_same : {A B : Causes} {v : Verdict} → ((n p : ℕ) → A n p → B 
 judged_same f g (accepted h) = accepted (λ n p b. h n p (g n p b))
 judged_same f g (refused {number} {place} c h) = refused (f number place c) (λ m q e b. h m q e (g m q b))
 
+-- ---- verdicts that a result tells
+
+pub told_then : (a v : Result Unit Refusal) → told (parts.and_then a v) ≡ and_then (told a) (told v)
+told_then (Ok u) v = refl
+told_then (Err r) v = refl
+
+pub told_refuse : (b : Bool) (cause : Cause) (place : ℕ) → told (parts.refuse b cause place) ≡ refuse b (number_of cause) place
+told_refuse true cause place = refl
+told_refuse false cause place = refl
+
+pub told_accepted : (a : Result Unit Refusal) → told a ≡ Accepted → a ≡ parts.accepted
+told_accepted (Ok u) e = refl
+told_accepted (Err r) e = absurd (let z : ◌≡◌ {A = ℕ} 0 1 = cc in omega arith)
+
+pub told_one : (t : Bool) (cause : Cause) (p : ℕ) → Judged (Only t (number_of cause) p) (told (parts.refuse t cause p))
+told_one t cause p = subst (Judged (Only t (number_of cause) p)) (sym (told_refuse t cause p)) (judged_one t (number_of cause) p)
+
+pub told_judged : {A B : Causes} {a v : Result Unit Refusal} → Late A B → Judged A (told a) → (a ≡ parts.accepted → Judged B (told v))
+    → Judged (Either A B) (told (parts.and_then a v))
+told_judged {A} {B} {a} {v} l x d =
+    subst (Judged (Either A B)) (sym (told_then a v)) (judged_then l x (λ e. d (told_accepted a e)))
+
 -- a lent table keeps its length
 pub unless_length : {A : Type 0} (v : Verdict) (l table : List A) → (v ≡ Accepted → length l ≤ length table)
     → length (unless_refused v (front l table) table) ≡ length table
@@ -99,14 +126,18 @@ late_cut {A} {B} low a high c u o m q n p b x = go (u n p x).1 (o m q b).0
 
 -- ---- the causes of one rule or pair: the numbers decide
 
-pub record Turn (i low high : ℕ) (A : Causes) (v : Verdict) : Type 0 where
-  pub judged : Judged A v
+pub record Turn (i low high : ℕ) (A : Causes) (v : Result Unit Refusal) : Type 0 where
+  pub judged : Judged A (told v)
   pub here : (n p : ℕ) → A n p → p ≡ i
   pub spans : Spans A low high
 
-pub turn_one : (t : Bool) (n i low high : ℕ) → low < n → n ≤ high → Turn i low high (Only t n i) (refuse t n i)
-turn_one t n i low high h k =
-    record { judged = judged_one t n i; here = λ m q c. c.1; spans = only_spans t n i low high h k }
+pub turn_one : (t : Bool) (cause : Cause) (i low high : ℕ) → low < number_of cause → number_of cause ≤ high
+    → Turn i low high (Only t (number_of cause) i) (parts.refuse t cause i)
+turn_one t cause i low high h k = record {
+  judged = told_one t cause i;
+  here = λ m q c. c.1;
+  spans = only_spans t (number_of cause) i low high h k;
+}
 
 late_here : {A B : Causes} (i low a high : ℕ) → ((n p : ℕ) → A n p → p ≡ i) → ((n p : ℕ) → B n p → p ≡ i)
     → Spans A low a → Spans B a high → Late A B
@@ -117,10 +148,10 @@ late_here i low a high f g u o m q n p b x = go (u n p x).1 (o m q b).0 (f n p x
     go h k s r (by_place t l) = omega arith
     go h k s r (at_place t e l) = omega arith
 
-pub turn_then : {A B : Causes} {a v : Verdict} {i : ℕ} (low middle high : ℕ) → low ≤ middle → middle ≤ high
-    → Turn i low middle A a → Turn i middle high B v → Turn i low high (Either A B) (and_then a v)
+pub turn_then : {A B : Causes} {a v : Result Unit Refusal} {i : ℕ} (low middle high : ℕ) → low ≤ middle → middle ≤ high
+    → Turn i low middle A a → Turn i middle high B v → Turn i low high (Either A B) (parts.and_then a v)
 turn_then {i = i} low middle high h k x y = record {
-  judged = judged_then (late_here i low middle high x.here y.here x.spans y.spans) x.judged (λ _. y.judged);
+  judged = told_judged (late_here i low middle high x.here y.here x.spans y.spans) x.judged (λ _. y.judged);
   here = λ n p. ⊎_elim (x.here n p) (y.here n p);
   spans = either_spans low middle high h k x.spans y.spans;
 }
@@ -140,7 +171,7 @@ module _ (C : ℕ → ℕ → Type 0) (turn : (i j m n : ℕ) → C i m → C j 
   late_next i n m q k p (h, l, b) (e, c) (by_place t r) = omega arith
   late_next i n m q k p (h, l, b) (e, c) (at_place t s r) = omega arith
 
-  pub from_none : (i : ℕ) → Judged (From i 0) Accepted
+  pub from_none : (i : ℕ) → Judged (From i 0) (told parts.accepted)
   from_none i = accepted (λ m q (h, l, c). omega arith)
 
   from_next : (i n m q : ℕ) → Either (Of i) (From (suc i) n) m q → From i (suc n) m q
@@ -152,8 +183,9 @@ module _ (C : ℕ → ℕ → Type 0) (turn : (i j m n : ℕ) → C i m → C j 
       ⊎_elim (λ e. inl (sym e, subst (λ (k : ℕ). C k m) (sym e) c)) (λ k. inr (k, omega arith, c))
       (eq-or-lt_of_le {n = i} {m = q} h)
 
-  pub from_judged : (i n : ℕ) {a v : Verdict} → Judged (Of i) a → Judged (From (suc i) n) v → Judged (From i (suc n)) (and_then a v)
-  from_judged i n x y = judged_same (from_next i n) (next_from i n) (judged_then (late_next i n) x (λ _. y))
+  pub from_judged : (i n : ℕ) {a v : Result Unit Refusal} → Judged (Of i) (told a) → Judged (From (suc i) n) (told v)
+      → Judged (From i (suc n)) (told (parts.and_then a v))
+  from_judged i n x y = judged_same (from_next i n) (next_from i n) (told_judged (late_next i n) x (λ _. y))
 
 -- ---- the first is one: of two causes that apply and differ, one is looked for before the other
 

@@ -2,9 +2,10 @@
 -- "Causes for turning an order away").
 use Rattle.std.specs.Prelude.{◌≡◌, List, map, ℕ, ◌+◌, ◌*◌, ◌/◌, ◌%◌, length, ltb, leb}
 use Rattle.program.specs.Program.{Π}
-use Rattle.layout.specs.Causes.{Verdict}
-use Rattle.layout.specs.Causes as verdicts
-use Rattle.layout.specs.Causes.{cause_of, place_of, refuse, and_then, verdict}
+use Rattle.calls.specs.Verdicts.{Verdict}
+use Rattle.calls.specs.Verdicts as verdicts
+use Rattle.layout.specs.Causes.{verdict}
+use Rattle.calls.specs.Verdicts.{told, cause_of, place_of, refuse, and_then}
 use Rattle.layout.specs.Reading.{program_in}
 use Rattle.derivation.specs.Closure.{contradictory}
 use Rattle.argument.specs.List.{argument_list}
@@ -22,7 +23,7 @@ use Rattle.answer.specs.Answer.{tests, forest_entries, answer}
 -- "Checked in the order listed: 1 to 3; 4 to 10 for each rule in turn; 11; 12 and 13 for each pair in turn; 14": "Π
 -- contradictory"
 unfoldable pub check_image : List ℕ → Verdict
-check_image s = and_then (verdict s) (refuse (contradictory (Π (program_in s).rules)) 14 0)
+check_image s = and_then (told (verdict s)) (refuse (contradictory (Π (program_in s).rules)) 14 0)
 
 -- ---- list arguments
 

@@ -2,7 +2,7 @@
 -- applies; and which is given. The tests of 1 to 13 are those of crate `layout`, specs/Causes.antt.
 use Rattle.std.specs.Prelude.{◌≡◌, List, ◌⊎◌, ℕ, zero, suc, ◌≤◌, ◌<◌, length, T}
 use Rattle.program.specs.Program.{Π}
-use Rattle.layout.specs.Causes.{Verdict, Accepted, Refused}
+use Rattle.calls.specs.Verdicts.{Verdict, Accepted, Refused}
 use Rattle.layout.specs.Layout.{atoms_of, rules_of, pair_count_of, part_of, kind_byte}
 use Rattle.layout.specs.Causes.{bad_length, bad_counts, bad_directory, bad_size, bad_kind, bad_literal, bad_body, bad_empty}
 use Rattle.layout.specs.Causes.{bad_seventeenth, bad_repeat, bad_pairs, bad_pair, bad_order, count_kind}

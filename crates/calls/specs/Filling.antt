@@ -1,6 +1,6 @@
 -- What is claimed of a call that fills lent byte tables, by its verdict.
 use Rattle.std.specs.Prelude.{◌≡◌, List, ◌↔◌, ℕ, ◌<◌, length, take, drop}
-use Rattle.layout.specs.Causes.{Verdict, Accepted, Refused}
+use Rattle.calls.specs.Verdicts.{Verdict, Accepted, Refused}
 use Rattle.calls.specs.Outcomes.{Outcome}
 use Rattle.calls.specs.Outcomes as outcomes
 use Rattle.calls.specs.Calls.{Carries}

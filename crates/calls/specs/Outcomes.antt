@@ -1,8 +1,8 @@
--- What a call hands back: what it is asked for, or the first cause that turns it away.
-use Rattle.std.specs.Prelude.{◌≡◌, ℕ, Result, Ok, Err}
+-- What a call hands back, by document 01's numbers: what it is asked for, or the first cause that turns it away.
+use Rattle.std.specs.Prelude.{◌≡◌, Bool, true, false, ℕ, Result, Ok, Err}
 use Rattle.layout.specs.declared.Refusal.{Refusal}
-use Rattle.layout.specs.Causes.{Verdict, number_of}
-use Rattle.layout.specs.Causes as verdicts
+use Rattle.layout.specs.Causes.{number_of}
+use Rattle.calls.specs.Verdicts as verdicts
 use Rattle.answer.specs.declared.Answer.{Answer}
 use Rattle.answer.specs.Answer.{code_of, nodes_of}
 
@@ -12,7 +12,7 @@ pub data Outcome (A : Type 0) : Type 0 where
   Refused : (number place : ℕ) → Outcome A
 
 -- by a verdict
-abbrev pub by_verdict : {A : Type 0} → Verdict → A → Outcome A
+abbrev pub by_verdict : {A : Type 0} → verdicts.Verdict → A → Outcome A
 by_verdict verdicts.Accepted a = Given a
 by_verdict (verdicts.Refused number place) a = Refused number place
 

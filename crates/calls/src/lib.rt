@@ -4,7 +4,7 @@
 
 ghost use Rattle.std.specs.Prelude.{◌≡◌, length};
 ghost use Rattle.program.specs.Inside.Table.{Holds};
-ghost use Rattle.layout.specs.Causes.{told, Accepted};
+ghost use Rattle.calls.specs.Verdicts.{told, Accepted};
 ghost use Rattle.layout.specs.Reading.{program_in};
 ghost use Rattle.calls.specs.Outcomes.{outcome_of};
 ghost use Rattle.calls.specs.Calls.{check_image, listed, list_table};

@@ -8,7 +8,8 @@ use lib.ListN.{length}
 use borrow.Author.Tests.{lt-ltb, le-ltb}
 use Rattle.program.specs.Program.{Rule, Π}
 use Rattle.program.specs.Inside.Table.{rule_count, Holds, Shaped}
-use Rattle.layout.specs.Causes.{Verdict, Accepted, Refused}
+use Rattle.calls.proofs.Verdicts.{told_accepted}
+use Rattle.calls.specs.Verdicts.{told, Verdict, Accepted, Refused}
 use Rattle.layout.specs.Layout.{rules_of}
 use Rattle.layout.specs.Causes.{verdict}
 use Rattle.layout.specs.Reading.{program_in}
@@ -25,8 +26,8 @@ use Rattle.clash.proofs.Strict.{among_strict}
 use Rattle.clash.proofs.Refusals.{clashes, verdict_by}
 
 -- a rule table that was filled
-pub shaped : (s t : List ℕ) → verdict s ≡ Accepted → Holds (program_in s) t → Shaped t
-shaped s t e h = limits_shaped (program_in s) t h (accepted_limits s e)
+pub shaped : (s t : List ℕ) → told (verdict s) ≡ Accepted → Holds (program_in s) t → Shaped t
+shaped s t e h = limits_shaped (program_in s) t h (accepted_limits s (told_accepted (verdict s) e))
 
 pub count_is : (s t : List ℕ) (n : ℕ) → Holds (program_in s) t → n ≡ rule_count t → n ≡ rules_of s
 unfolding program_in
@@ -47,11 +48,11 @@ module _ (s table : List ℕ) where
     sym (ap (λ (w : Verdict). unless_refused w (front (marks_of s) table) table) e),
   )
 
-  pub call_refused : (n k : ℕ) → verdict s ≡ Refused n k
+  pub call_refused : (n k : ℕ) → told (verdict s) ≡ Refused n k
       → (outcomes.Refused n k ≡ clashed_by s (length table)) × (table ≡ clash_table s table)
   call_refused n k e = answer (Refused n k) (verdict_by s (length table) (Refused n k) (clashes s) (ltb (length table) (rules_of s)) e refl refl)
 
-  module _ (read : verdict s ≡ Accepted) where
+  module _ (read : told (verdict s) ≡ Accepted) where
     pub call_28 : clashes s ≡ false → (outcomes.Refused 28 0 ≡ clashed_by s (length table)) × (table ≡ clash_table s table)
     call_28 e = answer (Refused 28 0) (verdict_by s (length table) Accepted false (ltb (length table) (rules_of s)) read e refl)
 

@@ -6,12 +6,14 @@ use native.Mathlib.Omega.{arith}
 use lib.ListN.{length, get_or, drop, get_or-append}
 use Rattle.lists.specs.Lists.{choose}
 use Rattle.literals.specs.Sets.{has}
-use Rattle.layout.specs.Causes.{Verdict, Accepted}
+use Rattle.calls.specs.Verdicts.{Verdict, Accepted}
 use Rattle.layout.specs.Layout.{rules_of}
 use Rattle.layout.specs.Reading.{program_in}
 use Rattle.image.proofs.Accepted.{accepted_sound}
 use Rattle.calls.specs.Calls.{front, unless_refused}
 use Rattle.calls.specs.Filling.{Returns, Fills}
+use Rattle.layout.specs.Causes.{verdict}
+use Rattle.calls.proofs.Verdicts.{told_accepted}
 use Rattle.calls.proofs.Refusals.{read_heads}
 use Rattle.calls.proofs.Filling.{returns, fills}
 use Rattle.clash.specs.Clash.{clash_of}
@@ -51,8 +53,8 @@ module _ (s table : List ℕ) where
             ap (λ (v : Verdict). get_or (unless_refused v (front (marks_of s) table) table) i 0) e
             ∙ get_or-append (marks_of s) (drop (length (marks_of s)) table) 0 i (omega (arith, one_for_each))
             ∙ marks_at set 0 (rules_of s) i l ∙ ap (λ (x : ℕ). choose (has set x) 1 0) (first i);
-        is_clash = is_clash (program_in s).rules (read_heads s r.0) r.1;
-        remains = clash_published (program_in s).rules (read_heads s r.0);
+        is_clash = is_clash (program_in s).rules (read_heads s (told_accepted (verdict s) r.0)) r.1;
+        remains = clash_published (program_in s).rules (read_heads s (told_accepted (verdict s) r.0));
       }
     where
       first : (i : ℕ) → 0 + i ≡ i

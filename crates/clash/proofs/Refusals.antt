@@ -10,9 +10,10 @@ use borrow.Author.Tests.{ltb-true, ltb-false, not-true, not-false}
 use Rattle.lists.proofs.Lists.{T_true}
 use Rattle.literals.proofs.Tests.{true_T}
 use Rattle.program.specs.Program.{Π}
-use Rattle.layout.specs.Causes.{Verdict, Accepted, Refused}
+use Rattle.calls.specs.Verdicts.{told, Verdict, Accepted, Refused}
 use Rattle.layout.specs.Layout.{rules_of}
-use Rattle.layout.specs.Causes.{refuse, and_then, verdict}
+use Rattle.layout.specs.Causes.{verdict}
+use Rattle.calls.specs.Verdicts.{refuse, and_then}
 use Rattle.layout.specs.Reading.{program_in}
 use Rattle.image.proofs.Accepted.{then_left, then_right, refuse_not}
 use Rattle.derivation.specs.Closure.{contradictory}
@@ -54,7 +55,7 @@ module _ (s : List ℕ) where
   abbrev Sound : Causes
   Sound n p = (n ≡ 28) × (p ≡ 0) × ((m q : ℕ) → ¬ ImageCause s m q)
 
-  sound_judged : verdict s ≡ Accepted → Judged Sound (refuse (not clashes) 28 0)
+  sound_judged : told (verdict s) ≡ Accepted → Judged Sound (refuse (not clashes) 28 0)
   sound_judged e =
       judged_same
       (λ n p (a, b, t). (a, b, accepted_none (check_passes s e (not-true clashes (T_true (not clashes) t)))))
@@ -103,27 +104,27 @@ module _ (s : List ℕ) where
 
     -- ---- by what reading, the test and the room say
 
-    pub verdict_by : (v : Verdict) (c l : Bool) → verdict s ≡ v → clashes ≡ c → short ≡ l
+    pub verdict_by : (v : Verdict) (c l : Bool) → told (verdict s) ≡ v → clashes ≡ c → short ≡ l
         → clash_verdict s room ≡ and_then v (and_then (refuse (not c) 28 0) (refuse l 29 0))
     unfolding clash_verdict
     verdict_by v c l e f g = rw (e, f, g)
 
-    pub clash_accepted : clash_verdict s room ≡ Accepted → (verdict s ≡ Accepted) × (clashes ≡ true) × (rules_of s ≤ room)
+    pub clash_accepted : clash_verdict s room ≡ Accepted → (told (verdict s) ≡ Accepted) × (clashes ≡ true) × (rules_of s ≤ room)
     unfolding clash_verdict
     clash_accepted e =
-        let r = then_right (verdict s) (and_then (refuse (not clashes) 28 0) (refuse short 29 0)) e in (
-          then_left (verdict s) (and_then (refuse (not clashes) 28 0) (refuse short 29 0)) e,
+        let r = then_right (told (verdict s)) (and_then (refuse (not clashes) 28 0) (refuse short 29 0)) e in (
+          then_left (told (verdict s)) (and_then (refuse (not clashes) 28 0) (refuse short 29 0)) e,
           not-false clashes (refuse_not (not clashes) 28 0 (then_left (refuse (not clashes) 28 0) (refuse short 29 0) r)),
           ltb-false room (rules_of s) (refuse_not short 29 0 (then_right (refuse (not clashes) 28 0) (refuse short 29 0) r)),
         )
 
   -- ---- beside the check
 
-  check_by : (v : Verdict) (c : Bool) → verdict s ≡ v → clashes ≡ c → check_image s ≡ and_then v (refuse c 14 0)
+  check_by : (v : Verdict) (c : Bool) → told (verdict s) ≡ v → clashes ≡ c → check_image s ≡ and_then v (refuse c 14 0)
   unfolding check_image
   check_by v c e f = rw (e, f)
 
-  small_read : Small (verdict s)
+  small_read : Small (told (verdict s))
   small_read number place e =
       let r = check_refused s number place (check_by (Refused number place) clashes e refl) in
       (r.0, omega (arith, r.2))
@@ -131,11 +132,11 @@ module _ (s : List ℕ) where
   pub clash_small : (room : ℕ) → Small (clash_verdict s room)
   unfolding clash_verdict
   clash_small room =
-      small_then (verdict s) (and_then (refuse (not clashes) 28 0) (refuse (short room) 29 0)) small_read
+      small_then (told (verdict s)) (and_then (refuse (not clashes) 28 0) (refuse (short room) 29 0)) small_read
       (small_then (refuse (not clashes) 28 0) (refuse (short room) 29 0) (small_refuse (not clashes) 28 (omega arith))
       (small_refuse (short room) 29 (omega arith)))
 
-  read_below : (n p : ℕ) → verdict s ≡ Refused n p → n < 14
+  read_below : (n p : ℕ) → told (verdict s) ≡ Refused n p → n < 14
   read_below n p e = go (subst (Judged Reading) e (reading_judged s))
     where
       go : Judged Reading (Refused n p) → n < 14
@@ -190,15 +191,15 @@ beside_marked n m l = record {
 }
 
 pub clash_beside : (s : List ℕ) (room : ℕ) → Beside (rules_of s) room (clash_verdict s room) (check_image s)
-clash_beside s room = go (verdict s) (clashes s) (short s room) refl refl refl
+clash_beside s room = go (told (verdict s)) (clashes s) (short s room) refl refl refl
   where
-    both : {v : Verdict} {c l : Bool} → verdict s ≡ v → clashes s ≡ c → short s room ≡ l
+    both : {v : Verdict} {c l : Bool} → told (verdict s) ≡ v → clashes s ≡ c → short s room ≡ l
         → Beside (rules_of s) room (and_then v (and_then (refuse (not c) 28 0) (refuse l 29 0))) (and_then v (refuse c 14 0))
         → Beside (rules_of s) room (clash_verdict s room) (check_image s)
     both {v} {c} {l} e f g =
         subst₂ (Beside (rules_of s) room) (sym (verdict_by s room v c l e f g)) (sym (check_by s v c e f))
 
-    go : (v : Verdict) (c l : Bool) → verdict s ≡ v → clashes s ≡ c → short s room ≡ l
+    go : (v : Verdict) (c l : Bool) → told (verdict s) ≡ v → clashes s ≡ c → short s room ≡ l
         → Beside (rules_of s) room (clash_verdict s room) (check_image s)
     go (Refused n p) c l e f g = both e f g (beside_read (rules_of s) room n p (read_below s n p e))
     go Accepted false l e f g = both e f g (beside_28 (rules_of s) room)

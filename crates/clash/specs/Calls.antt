@@ -1,9 +1,10 @@
 -- What the call that marks a clash returns, and what it leaves in the lent byte table (document 02, C-20).
 use Rattle.std.specs.Prelude.{not, List, ℕ, ◌<◌, length, ltb}
 use Rattle.program.specs.Program.{Π}
-use Rattle.layout.specs.Causes.{Verdict}
+use Rattle.calls.specs.Verdicts.{Verdict}
 use Rattle.layout.specs.Layout.{rules_of}
-use Rattle.layout.specs.Causes.{refuse, and_then, verdict}
+use Rattle.layout.specs.Causes.{verdict}
+use Rattle.calls.specs.Verdicts.{told, refuse, and_then}
 use Rattle.layout.specs.Reading.{program_in}
 use Rattle.derivation.specs.Closure.{contradictory}
 use Rattle.calls.specs.Outcomes.{Outcome, by_verdict}
@@ -14,7 +15,7 @@ use Rattle.clash.specs.Clash.{clash_of, marks_from}
 -- "28, the image is accepted; 29, the byte table is shorter than the rule count. Both come where 14 stood, 28 first"
 unfoldable pub clash_verdict : List ℕ → (room : ℕ) → Verdict
 clash_verdict s room =
-    and_then (verdict s)
+    and_then (told (verdict s))
     (and_then (refuse (not (contradictory (Π (program_in s).rules))) 28 0) (refuse (ltb room (rules_of s)) 29 0))
 
 -- "One byte for each rule"

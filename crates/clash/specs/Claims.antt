@@ -3,7 +3,7 @@
 use Rattle.std.specs.Prelude.{◌≡◌, List, ◌↔◌, ℕ, ◌≤◌, ◌<◌, length, get_or}
 use Rattle.lists.specs.Lists.{choose}
 use Rattle.literals.specs.Sets.{has}
-use Rattle.layout.specs.Causes.{Accepted, Refused}
+use Rattle.calls.specs.Verdicts.{Accepted, Refused}
 use Rattle.layout.specs.Layout.{rules_of}
 use Rattle.layout.specs.Reading.{program_in}
 use Rattle.calls.specs.Calls.{check_image}

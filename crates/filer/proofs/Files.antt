@@ -12,9 +12,9 @@ use Rattle.lists.specs.Lists.{inverse}
 use Rattle.lists.specs.Sorting.{sorted}
 use Rattle.lists.specs.Inside.Numbering.{Numbering}
 use Rattle.lists.proofs.Numberings.{inverse_numbering}
-use Rattle.layout.specs.Causes.{Verdict, Accepted, Refused}
+use Rattle.calls.specs.Verdicts.{Verdict, Accepted, Refused}
 use Rattle.layout.specs.Layout.{rules_of}
-use Rattle.layout.specs.Causes.{refuse, and_then}
+use Rattle.calls.specs.Verdicts.{refuse, and_then}
 use Rattle.layout.specs.Reading.{program_in}
 use Rattle.writing.specs.Image.{image_of}
 use Rattle.calls.specs.Outcomes as outcomes

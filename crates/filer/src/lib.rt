@@ -7,7 +7,7 @@ ghost use Rattle.lists.specs.Inside.Numbering.{Numbering};
 ghost use Rattle.layout.specs.Layout.{rules_of};
 ghost use Rattle.layout.specs.Reading.{program_in};
 ghost use Rattle.writing.specs.Image.{image_of};
-ghost use Rattle.layout.specs.Causes.{told, Accepted};
+ghost use Rattle.calls.specs.Verdicts.{told, Accepted};
 ghost use Rattle.calls.specs.Outcomes.{outcome_of};
 ghost use Rattle.calls.specs.Calls.{check_image};
 ghost use Rattle.filing.specs.Filed.{ordered};

@@ -5,7 +5,7 @@ use Prim.Native.Nat.{ℕ, ◌≤◌}
 use native.Mathlib.Omega.{arith}
 use lib.ListN.{length, take}
 use Rattle.lists.specs.Inside.Numbering.{Numbering}
-use Rattle.layout.specs.Causes.{Verdict, Accepted}
+use Rattle.calls.specs.Verdicts.{Verdict, Accepted}
 use Rattle.layout.specs.Layout.{rules_of}
 use Rattle.writing.specs.Image.{Bytes}
 use Rattle.writing.proofs.Written.{rule_count_lem}

@@ -7,7 +7,7 @@ use native.Mathlib.Omega.{arith}
 use lib.ListN.{length, get_or}
 use Rattle.lists.specs.Sorting.{Sorted}
 use Rattle.program.specs.Program.{Rule, Program, fact, rule_at}
-use Rattle.layout.specs.Causes.{Accepted}
+use Rattle.calls.specs.Verdicts.{Accepted}
 use Rattle.layout.specs.Layout.{rules_of}
 use Rattle.layout.specs.Reading.{program_in}
 use Rattle.calls.specs.Calls.{check_image}

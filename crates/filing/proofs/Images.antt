@@ -9,7 +9,7 @@ use Rattle.lists.proofs.Permutations.{fold, fold_perm, same_perm, perm_length, f
 use Rattle.lists.proofs.Sorting.{sort_perm, sorted_distinct}
 use Rattle.program.specs.Program.{Kind, strict, defeasible, Rule, Program, is_defeasible, next_bit, defeasibles, defeasibles_from}
 use Rattle.program.specs.Limits.{DefeasibleAt, PairOf}
-use Rattle.layout.specs.Causes.{Accepted}
+use Rattle.calls.specs.Verdicts.{Accepted}
 use Rattle.layout.specs.Causes.{part_verdict}
 use Rattle.renaming.specs.Programs.{Renumbered}
 use Rattle.renaming.proofs.Masks.{renumbered_sym, rules_to, defeasible_to}

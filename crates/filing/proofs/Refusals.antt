@@ -20,9 +20,9 @@ use Rattle.lists.proofs.Lists.{T_false, T_true}
 use Rattle.lists.proofs.Places.{there, found, apart}
 use Rattle.lists.proofs.Numberings.{Twice, decides_repeats, not_twice, numbering_full}
 use Rattle.lists.proofs.Sorting.{decides_sorted}
-use Rattle.layout.specs.Causes.{Verdict, Accepted}
+use Rattle.calls.specs.Verdicts.{Verdict, Accepted}
 use Rattle.layout.specs.Layout.{rules_of}
-use Rattle.layout.specs.Causes.{refuse, and_then}
+use Rattle.calls.specs.Verdicts.{refuse, and_then}
 use Rattle.layout.specs.Reading.{program_in}
 use Rattle.image.proofs.Accepted.{then_left, then_right, refuse_not}
 use Rattle.calls.specs.Calls.{check_image}

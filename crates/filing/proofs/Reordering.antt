@@ -9,8 +9,9 @@ use lib.ListN.{length, get_or}
 use Rattle.lists.specs.Lists.{index_in}
 use Rattle.lists.specs.Inside.Numbering.{Numbering}
 use Rattle.program.specs.Program.{Program, Π}
-use Rattle.layout.specs.Causes.{Verdict, Accepted}
-use Rattle.layout.specs.Causes.{refuse, and_then, verdict}
+use Rattle.calls.specs.Verdicts.{Verdict, Accepted}
+use Rattle.layout.specs.Causes.{verdict}
+use Rattle.calls.specs.Verdicts.{refuse, and_then}
 use Rattle.layout.specs.Reading.{program_in}
 use Rattle.image.proofs.Accepted.{then_left, then_right, accepted_limits}
 use Rattle.derivation.specs.Derivation.{HeadsBelow}

@@ -3,9 +3,9 @@
 use Rattle.std.specs.Prelude.{◌≡◌, Bool, not, ◌||◌, List, ℕ, ◌≤◌, ◌<◌, length, get_or, take, ltb, leb}
 use Rattle.lists.specs.Lists.{any, repeats}
 use Rattle.lists.specs.Sorting.{Sorted, sorted}
-use Rattle.layout.specs.Causes.{Verdict}
+use Rattle.calls.specs.Verdicts.{Verdict}
 use Rattle.layout.specs.Layout.{rules_of}
-use Rattle.layout.specs.Causes.{refuse, and_then}
+use Rattle.calls.specs.Verdicts.{refuse, and_then}
 use Rattle.layout.specs.Reading.{program_in}
 use Rattle.calls.specs.Outcomes.{Outcome, by_verdict}
 use Rattle.calls.specs.Calls.{check_image, front, unless_refused, count_number}

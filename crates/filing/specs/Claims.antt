@@ -4,7 +4,7 @@ use Rattle.std.specs.Prelude.{◌≡◌, ◌↔◌, ℕ, ◌≤◌, ◌<◌, len
 use mathlib.Core.List.{List, Memᴰ}
 use Rattle.lists.specs.Sorting.{Sorted}
 use Rattle.program.specs.Program.{rule_at}
-use Rattle.layout.specs.Causes.{Accepted}
+use Rattle.calls.specs.Verdicts.{Accepted}
 use Rattle.layout.specs.Layout.{rules_of}
 use Rattle.layout.specs.Reading.{program_in}
 use Rattle.writing.specs.Image.{Bytes, pair_key}

@@ -8,20 +8,6 @@ use Rattle.layout.specs.declared.Cause.TheVariants.{PairNames, PairOrder, Strict
 use Rattle.layout.specs.declared.Refusal.{Refusal}
 use Rattle.layout.specs.Layout.{number_at, atoms_of, rules_of, pair_count_of, offset_of, size_of, part_of, kind_byte, body_bytes, first_of, second_of}
 
--- accepted, or the number and the place of the first cause that applies
-pub data Verdict : Type 0 where
-  Accepted : Verdict
-  Refused : (number place : ℕ) → Verdict
-
--- document 01's number of the cause that a verdict names, and the cause's place: of one that accepts, neither
-abbrev pub cause_of : Verdict → ℕ
-cause_of Accepted = 0
-cause_of (Refused number place) = number
-
-abbrev pub place_of : Verdict → ℕ
-place_of Accepted = 0
-place_of (Refused number place) = place
-
 -- document 01's number of each cause
 abbrev pub number_of : Cause → ℕ
 number_of ImageLength = 1
@@ -48,20 +34,34 @@ number_of Misfiled = 26
 number_of ImageAccepted = 28
 number_of MarkTable = 29
 
--- the verdict that a result tells: accepted, whatever comes with it, or the cause's number and its place
-abbrev pub told : {A : Type 0} → Result A Refusal → Verdict
-told (Ok a) = Accepted
-told (Err r) = Refused (number_of r.cause) r.place
+-- accepted, or the first cause that applies, with its place
+abbrev pub Verdict : Type 0
+Verdict = Result Unit Refusal
 
--- a cause with its number and its place, where it applies
-abbrev pub refuse : Bool → ℕ → ℕ → Verdict
-refuse true number place = Refused number place
-refuse false number place = Accepted
+abbrev pub accepted : Verdict
+accepted = Ok tt
+
+abbrev pub refused : {A : Type 0} → Cause → ℕ → Result A Refusal
+refused cause place = Err (record { cause = cause; place = place })
+
+-- the number of the cause that a result names, and the cause's place: of one that names none, neither
+abbrev pub cause_of : {A : Type 0} → Result A Refusal → ℕ
+cause_of (Ok a) = 0
+cause_of (Err r) = number_of r.cause
+
+abbrev pub place_of : {A : Type 0} → Result A Refusal → ℕ
+place_of (Ok a) = 0
+place_of (Err r) = r.place
+
+-- a cause with its place, where it applies
+abbrev pub refuse : Bool → Cause → ℕ → Verdict
+refuse true cause place = refused cause place
+refuse false cause place = accepted
 
 -- "Checked in the order listed": the first of two that refuses
-abbrev pub and_then : Verdict → Verdict → Verdict
-and_then Accepted v = v
-and_then (Refused n p) v = Refused n p
+abbrev pub and_then : {A : Type 0} → Verdict → Result A Refusal → Result A Refusal
+and_then (Ok a) v = v
+and_then (Err r) v = Err r
 
 -- 1: "Image under 12 or over 1,836 bytes"
 abbrev pub bad_length : List ℕ → Bool
@@ -134,15 +134,15 @@ bad_repeat s i = stands_in s (part_of s i) 0 i
 unfoldable pub part_verdict : List ℕ → ℕ → ℕ → ℕ → Verdict
 unfolding all_below ascending
 part_verdict part atoms before place =
-    and_then (refuse (bad_size part) 4 place)
-    (and_then (refuse (bad_kind part) 5 place)
-    (and_then (refuse (bad_literal atoms part) 6 place)
-    (and_then (refuse (bad_body part) 7 place)
-    (and_then (refuse (bad_empty part) 8 place) (refuse (bad_seventeenth before part) 9 place)))))
+    and_then (refuse (bad_size part) RuleLength place)
+    (and_then (refuse (bad_kind part) RuleKind place)
+    (and_then (refuse (bad_literal atoms part) LiteralRange place)
+    (and_then (refuse (bad_body part) BodyOrder place)
+    (and_then (refuse (bad_empty part) DefeasibleWithoutBody place) (refuse (bad_seventeenth before part) TooManyDefeasible place)))))
 
 unfoldable pub rule_verdict : List ℕ → ℕ → ℕ → Verdict
 unfolding part_verdict stands_in
-rule_verdict s before i = and_then (part_verdict (part_of s i) (atoms_of s) before i) (refuse (bad_repeat s i) 10 i)
+rule_verdict s before i = and_then (part_verdict (part_of s i) (atoms_of s) before i) (refuse (bad_repeat s i) RepeatedRule i)
 
 -- one defeasible rule more, where the kind byte says so
 abbrev pub count_kind : ℕ → ℕ → ℕ
@@ -151,7 +151,7 @@ count_kind kind before = choose (eqb kind 1) (suc before) before
 -- "4 to 10 for each rule in turn": the n rules from rule i on, `before` of the earlier ones defeasible
 unfoldable pub rules_verdict : List ℕ → ℕ → ℕ → ℕ → Verdict
 unfolding rule_verdict
-rules_verdict s before i zero = Accepted
+rules_verdict s before i zero = accepted
 rules_verdict s before i (suc n) = and_then (rule_verdict s before i) (rules_verdict s (count_kind (kind_byte (part_of s i)) before) (suc i) n)
 
 -- 11: "Last part isn't 2 × P bytes"
@@ -174,20 +174,20 @@ bad_order s zero = false
 bad_order s (suc j) = leb (pair_code s (suc j)) (pair_code s j)
 
 unfoldable pub pair_verdict : List ℕ → ℕ → Verdict
-pair_verdict s j = and_then (refuse (bad_pair s j) 12 j) (refuse (bad_order s j) 13 j)
+pair_verdict s j = and_then (refuse (bad_pair s j) PairNames j) (refuse (bad_order s j) PairOrder j)
 
 -- "12 and 13 for each pair in turn": the n pairs from pair j on
 unfoldable pub pairs_verdict : List ℕ → ℕ → ℕ → Verdict
 unfolding pair_verdict
-pairs_verdict s j zero = Accepted
+pairs_verdict s j zero = accepted
 pairs_verdict s j (suc n) = and_then (pair_verdict s j) (pairs_verdict s (suc j) n)
 
 -- "1 to 3; 4 to 10 for each rule in turn; 11; 12 and 13 for each pair in turn"
 unfoldable pub verdict : List ℕ → Verdict
 unfolding parts_follow rules_verdict pairs_verdict
 verdict s =
-    and_then (refuse (bad_length s) 1 0)
-    (and_then (refuse (bad_counts s) 2 0)
-    (and_then (refuse (bad_directory s) 3 0)
+    and_then (refuse (bad_length s) ImageLength 0)
+    (and_then (refuse (bad_counts s) Header 0)
+    (and_then (refuse (bad_directory s) Directory 0)
     (and_then (rules_verdict s 0 0 (rules_of s))
-    (and_then (refuse (bad_pairs s) 11 0) (pairs_verdict s 0 (pair_count_of s))))))
+    (and_then (refuse (bad_pairs s) LastPartLength 0) (pairs_verdict s 0 (pair_count_of s))))))

@@ -2,7 +2,8 @@
 #![tactic(auto)]
 
 ghost use Rattle.std.specs.Prelude.{◌≡◌, ◌+◌, ◌*◌, ◌<◌};
-ghost use Rattle.layout.specs.Causes.{told, number_of};
+ghost use Rattle.layout.specs.Causes.{number_of};
+ghost use Rattle.calls.specs.Verdicts.{told};
 ghost use Rattle.calls.specs.Outcomes.{outcome_of};
 ghost use Rattle.answer.specs.Answer.{code_of, nodes_of};
 ghost use Rattle.calls.specs.Calls.{refusal_number, verdict_number, count_number, answered_number, packed};

@@ -9,9 +9,9 @@ use lib.Dec.{eqb, leb}
 use lib.ListN.{length, take}
 use lib.Seq.{length-take-le}
 use borrow.Author.Tests.{ne_eqb, le-leb, lt-leb}
-use Rattle.layout.specs.Causes.{Verdict, Accepted, Refused}
+use Rattle.calls.specs.Verdicts.{Verdict, Accepted, Refused}
 use Rattle.layout.specs.Layout.{rules_of}
-use Rattle.layout.specs.Causes.{cause_of}
+use Rattle.calls.specs.Verdicts.{cause_of}
 use Rattle.writing.specs.Image.{Bytes}
 use Rattle.calls.specs.Outcomes as outcomes
 use Rattle.calls.specs.Outcomes.{by_verdict}

@@ -1,6 +1,6 @@
 -- An image that was filed and brought back (document 02, C-16).
 use Rattle.std.specs.Prelude.{Bool, ◌&&◌, List, ℕ, eqb, leb, length}
-use Rattle.layout.specs.Causes.{cause_of}
+use Rattle.calls.specs.Verdicts.{cause_of}
 use Rattle.filing.specs.Calls.{file_verdict}
 
 -- whether no cause turns the writer away, and the last table has room for the image

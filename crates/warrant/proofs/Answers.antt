@@ -7,7 +7,7 @@ use native.Mathlib.Omega.{arith}
 use lib.ListN.{length, replicate}
 use Rattle.program.specs.Program.{Program}
 use Rattle.program.specs.Limits.{Limits}
-use Rattle.layout.specs.Causes.{Accepted}
+use Rattle.calls.specs.Verdicts.{Accepted}
 use Rattle.layout.specs.Reading.{program_in}
 use Rattle.image.proofs.Accepted.{accepted_limits}
 use Rattle.argument.specs.Argument.{ArgumentList}

@@ -8,8 +8,8 @@ use native.Mathlib.Omega.{arith}
 use lib.ListN.{length, drop, replicate, length-map, length-replicate}
 use lib.Dec.{T, ltb, nltb→le}
 use Rattle.program.specs.Program.{Program}
-use Rattle.layout.specs.Causes.{Verdict}
-use Rattle.layout.specs.Causes as verdicts
+use Rattle.calls.specs.Verdicts.{Verdict}
+use Rattle.calls.specs.Verdicts as verdicts
 use Rattle.layout.specs.Reading.{program_in}
 use Rattle.derivation.specs.Derivation.{complement}
 use Rattle.defeat.specs.Tests.{Tests}

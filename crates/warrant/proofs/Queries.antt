@@ -7,9 +7,9 @@ use lib.Dec.{ltb, leb}
 use lib.ListN.{length}
 use borrow.Author.Tests.{lt-ltb, le-ltb, le-leb, lt-leb, ltb-true, ltb-false}
 use Rattle.lists.specs.Lists.{choose}
-use Rattle.layout.specs.Causes.{Verdict}
-use Rattle.layout.specs.Causes as verdicts
-use Rattle.layout.specs.Causes.{refuse, and_then}
+use Rattle.calls.specs.Verdicts.{Verdict}
+use Rattle.calls.specs.Verdicts as verdicts
+use Rattle.calls.specs.Verdicts.{refuse, and_then}
 use Rattle.layout.specs.Reading.{program_in}
 use Rattle.image.proofs.Accepted.{accepted_limits}
 use Rattle.program.specs.Inside.Table.{Holds}

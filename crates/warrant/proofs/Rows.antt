@@ -7,8 +7,8 @@ use native.Mathlib.Nat.{le_trans}
 use native.Mathlib.Omega.{arith}
 use lib.ListN.{length, replicate, length-replicate}
 use lib.Dec.{ltb}
-use Rattle.layout.specs.Causes.{Verdict}
-use Rattle.layout.specs.Causes as verdicts
+use Rattle.calls.specs.Verdicts.{Verdict}
+use Rattle.calls.specs.Verdicts as verdicts
 use Rattle.layout.specs.Reading.{program_in}
 use Rattle.derivation.specs.Derivation.{complement}
 use Rattle.preference.specs.Preference.{preferred_test}

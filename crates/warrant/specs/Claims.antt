@@ -3,7 +3,7 @@
 -- with (crate `calls`, specs/Calls.antt).
 use Rattle.std.specs.Prelude.{◌≡◌, List, ◌↔◌, ℕ, ◌≤◌, ◌<◌, length}
 use Rattle.program.specs.Program.{Program}
-use Rattle.layout.specs.Causes.{Accepted, Refused}
+use Rattle.calls.specs.Verdicts.{Accepted, Refused}
 use Rattle.layout.specs.Reading.{program_in}
 use Rattle.argument.specs.Argument.{ArgumentList}
 use Rattle.defeat.specs.OfProgram.{Exclude}

@@ -13,7 +13,8 @@ use Rattle.program.specs.Program.{Kind, strict, defeasible, Rule, Program, fact,
 use Rattle.program.specs.Limits.{DefeasibleAt, PairOf}
 use Rattle.program.proofs.Numbers.{bit_of_below}
 use Rattle.program.proofs.Fillings.{bit_of_next}
-use Rattle.layout.specs.Causes.{Verdict, Accepted}
+use Rattle.layout.specs.declared.Verdict.{Verdict}
+use Rattle.layout.specs.declared.Verdict.TheVariants.{Accepted}
 use Rattle.layout.specs.Layout.{byte_at, number_at, atoms_of, rules_of, pair_count_of, offset_of, size_of, part_of, kind_byte, first_of, second_of}
 use Rattle.layout.specs.Causes.{refuse, and_then, bad_length, bad_counts, bad_directory, bad_pairs, bad_pair, bad_order, pair_code, not_defeasible, bad_seventeenth, bad_repeat}
 use Rattle.layout.specs.Causes.{parts_follow, part_verdict, rule_verdict, count_kind, rules_verdict, pair_verdict, pairs_verdict, verdict}

@@ -13,7 +13,7 @@ use borrow.Author.Tests.{eq-eqb, lt-ltb, le-ltb}
 use Rattle.lists.proofs.Orders.{ordered_at}
 use Rattle.lists.specs.Sorting.{before, Sorted}
 use Rattle.lists.proofs.Sorting.{first_decides, before_trans}
-use Rattle.layout.specs.Causes.{Accepted}
+use Rattle.layout.specs.declared.Verdict.TheVariants.{Accepted}
 use Rattle.layout.specs.Layout.{kind_byte, part_of}
 use Rattle.layout.specs.Causes.{refuse, bad_size, bad_kind, bad_literal, bad_body, bad_empty, bad_seventeenth, part_verdict, same_bytes, stands_in}
 use Rattle.part.proofs.Verdicts.{by_tests}

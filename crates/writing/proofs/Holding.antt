@@ -9,7 +9,7 @@ use Rattle.lists.specs.Lists.{Distinct}
 use Rattle.lists.proofs.Places.{distinct_at}
 use Rattle.lists.specs.Sorting.{before, Sorted}
 use Rattle.program.specs.Program.{fact, rule_at}
-use Rattle.layout.specs.Causes.{Accepted}
+use Rattle.layout.specs.declared.Verdict.TheVariants.{Accepted}
 use Rattle.layout.specs.Layout.{atoms_of, rules_of, pair_count_of, part_of, kind_byte, first_of, second_of}
 use Rattle.layout.specs.Causes.{refuse, bad_pair, bad_order, pair_code, bad_repeat, part_verdict, rule_verdict, count_kind, rules_verdict, pair_verdict, pairs_verdict, verdict}
 use Rattle.layout.specs.Reading.{rules_in, pairs_in, program_in}

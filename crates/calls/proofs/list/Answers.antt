@@ -2,13 +2,13 @@
 use mathlib.Core.Path.{◌≡◌, sym, ap, ◌∙◌}
 use mathlib.Core.List.{List}
 use Prim.Native.Nat.{ℕ}
-use Rattle.layout.specs.Causes.{told}
+use Rattle.calls.specs.Verdicts.{told}
 use Rattle.program.specs.Limits.{Limits}
 use Rattle.program.specs.Inside.Table.{Shaped, Holds}
 use Rattle.rows.specs.Switched.{NeedsOne}
 use Rattle.derivation.proofs.Tables.{limits_shaped}
 use Rattle.closing.proofs.Masks.{limits_needs}
-use Rattle.layout.specs.Causes.{Accepted}
+use Rattle.calls.specs.Verdicts.{Accepted}
 use Rattle.layout.specs.Reading.{program_in}
 use Rattle.image.proofs.Accepted.{accepted_limits}
 use Rattle.calls.specs.Calls.{check_image}

@@ -3,15 +3,16 @@ use mathlib.Core.Path.{◌≡◌, refl, sym, ap, ap₂, ◌∙◌}
 use mathlib.Core.Bool.{Bool, true, false}
 use mathlib.Core.List.{List}
 use Prim.Native.Nat.{ℕ}
-use Rattle.layout.specs.Causes.{told}
+use Rattle.calls.specs.Verdicts.{told}
 use Rattle.literals.specs.Sets.{clash}
 use Rattle.program.specs.Program.{Rule, Program, Π, Π_mask}
 use Rattle.program.specs.Inside.Table.{Holds, Shaped}
 use Rattle.derivation.specs.Closure.{closure, contradictory}
 use Rattle.derivation.proofs.Choices.{Π_mask_empty}
 use Rattle.derivation.proofs.Tables.{limits_shaped}
-use Rattle.layout.specs.Causes.{Verdict, Accepted, Refused}
-use Rattle.layout.specs.Causes.{refuse, and_then, verdict}
+use Rattle.calls.specs.Verdicts.{Verdict, Accepted, Refused}
+use Rattle.layout.specs.Causes.{verdict}
+use Rattle.calls.specs.Verdicts.{refuse, and_then}
 use Rattle.layout.specs.Reading.{program_in}
 use Rattle.image.proofs.Accepted.{accepted_limits}
 use Rattle.calls.specs.Calls.{check_image}

@@ -1,7 +1,7 @@
 -- `clash` meets its contract, by what reading, the test and the room say.
 use mathlib.Core.Path.{sym, ap, ◌∙◌}
 use native.Mathlib.Omega.{arith}
-use Rattle.layout.specs.Causes.{told}
+use Rattle.calls.specs.Verdicts.{told}
 use Rattle.layout.specs.Reading.{program_in}
 use Rattle.clash.proofs.Answers.{shaped, count_is, tested, pruned_clash, call_refused, call_28, call_29, call_done}
 use Rattle.clash.proofs.clash.Goals as goal

@@ -1,6 +1,6 @@
 -- By what the check says, and then by the two tables.
 use mathlib.Core.Path.{sym, ap, ◌∙◌}
-use Rattle.layout.specs.Causes.{told}
+use Rattle.calls.specs.Verdicts.{told}
 use Rattle.filer.proofs.Rules.{accepted_long}
 use Rattle.filer.proofs.Files.{admit_checked, admit_short, admit_few, admit_all}
 use native.Mathlib.Omega.{arith}

@@ -1,6 +1,6 @@
 -- By what the common part says.
 use mathlib.Core.Path.{sym, ap, ◌∙◌}
-use Rattle.layout.specs.Causes.{told}
+use Rattle.calls.specs.Verdicts.{told}
 use Rattle.filing.proofs.Refusals.{file_accepted}
 use Rattle.filer.proofs.Rules.{accepted_long, accepted_short}
 use Rattle.filer.proofs.Files.{file_turned, filed_front, filed_numbering, file_done}

@@ -2,7 +2,7 @@
 use mathlib.Core.Path.{sym, ap, ◌∙◌}
 use Prim.Native.Nat.{◌≤◌}
 use lib.ListN.{get_or-replicate}
-use Rattle.layout.specs.Causes.{told}
+use Rattle.calls.specs.Verdicts.{told}
 use Rattle.filing.proofs.Refusals.{file_accepted}
 use Rattle.filer.proofs.Rules.{accepted_short}
 use Rattle.filer.proofs.Rules.{accepted_few, accepted_long}

@@ -5,7 +5,7 @@ use Rattle.lists.specs.Lists.{Distinct}
 use Rattle.lists.specs.Sorting.{Sorted}
 use Rattle.program.specs.Program.{Rule, Program, defeasibles}
 use Rattle.program.specs.Limits.{PairOf}
-use Rattle.layout.specs.Causes.{Accepted}
+use Rattle.layout.specs.declared.Verdict.TheVariants.{Accepted}
 use Rattle.layout.specs.Causes.{part_verdict}
 use Rattle.writing.specs.Image.{rule_bytes, pair_key}
 

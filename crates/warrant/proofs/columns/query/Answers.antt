@@ -1,7 +1,7 @@
 -- `columns::query` meets its contract: cause by cause, then the answer in the program.
 use mathlib.Core.Path.{sym, ap, ◌∙◌}
 use native.Mathlib.Nat.{le_trans}
-use Rattle.layout.specs.Causes.{told}
+use Rattle.calls.specs.Verdicts.{told}
 use Rattle.warrant.proofs.Queries.{held_in, query_image, query_20, query_21, query_22, query_settled}
 use Rattle.warrant.proofs.columns.query.Goals as goal
 
