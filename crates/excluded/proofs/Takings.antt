@@ -15,7 +15,6 @@ use borrow.Author.Tests.{eqb-true, eq-eqb, ne_eqb}
 use Rattle.literals.specs.Sets.{has, insert, minus, union, within}
 use Rattle.literals.specs.Inside.Words.{joined, set_of}
 use Rattle.literals.specs.declared.LiteralSet.{LiteralSet}
-use Rattle.literals.proofs.Words.{has_joined_low, has_joined_high}
 use Rattle.literals.proofs.Tests.{not_true_false, and_intro, and_left, and_right, or_left, or_right}
 use Rattle.literals.proofs.Members.{has_empty, has_bound, has_minus_power, has_cases, has_minus, has_union, has_power, has_some, has_not_empty}
 use Rattle.literals.proofs.Members.{has_insert_same, insert_cases, insert_keeps, insert_below}
@@ -96,79 +95,62 @@ open_more t d n s r listed on e so = rw e (record {
 pub open_all : (t : List ℕ) (d n s : ℕ) → rule_count t ≤ n → Open t d n s → Open t d (rule_count t) s
 open_all t d n s l so = record { only = so.only; each = λ k h. so.each k (omega arith) }
 
--- the rules of both words of what is left
-pub open_left : (t : List ℕ) (d n s taken hi lo : ℕ) → lo < 2 ^ 64 → joined hi lo ≡ minus s taken → Open t d n s
-    → ((b : ℕ) → has lo b ≡ true → (0 + b < rule_count t) × (strict_at t d (0 + b) ≡ true))
-    × ((b : ℕ) → has hi b ≡ true → (64 + b < rule_count t) × (strict_at t d (64 + b) ≡ true))
-open_left t d n s taken hi lo fits e so = (
-  λ b h.
-      let z : 0 + b ≡ b = omega arith in
-      at (0 + b) (ap (has (joined hi lo)) z ∙ has_joined_low hi lo b (has_bound lo 64 b fits h) ∙ h),
-  λ b h. at (64 + b) (has_joined_high hi lo b fits ∙ h),
-)
-  where
-    at : (k : ℕ) → has (joined hi lo) k ≡ true → (k < rule_count t) × (strict_at t d k ≡ true)
-    at k h =
-        so.only k (and_left (has s k) (not (has taken k)) (sym (has_minus s taken k) ∙ ap (λ (x : ℕ). has x k) (sym e) ∙ h))
+-- the rules of what is left
+pub open_left : (t : List ℕ) (d n s taken left : ℕ) → left ≡ minus s taken → Open t d n s
+    → (k : ℕ) → has left k ≡ true → (k < rule_count t) × (strict_at t d k ≡ true)
+open_left t d n s taken left e so k h =
+    so.only k (and_left (has s k) (not (has taken k)) (sym (has_minus s taken k) ∙ ap (λ (x : ℕ). has x k) (sym e) ∙ h))
 
--- a word of rules in which none is taken
-pub record Resting (t : List ℕ) (word first taken reach left after far : ℕ) : Type 0 where
+-- a set of rules in which none is taken
+pub record Resting (t : List ℕ) (s taken reach left after far : ℕ) : Type 0 where
   pub taken_is : after ≡ taken
   pub reach_is : far ≡ reach
-  pub quiet : (b : ℕ) → has word b ≡ true → has left b ≡ false → Quiet t taken reach (first + b)
+  pub quiet : (i : ℕ) → has s i ≡ true → has left i ≡ false → Quiet t taken reach i
 
-pub resting_none : (t : List ℕ) (word first taken reach : ℕ) → Resting t word first taken reach word taken reach
-resting_none t word first taken reach = record { taken_is = refl; reach_is = refl; quiet = λ b h n. absurd (false≢true (sym n ∙ h)) }
+pub resting_none : (t : List ℕ) (s taken reach : ℕ) → Resting t s taken reach s taken reach
+resting_none t s taken reach = record { taken_is = refl; reach_is = refl; quiet = λ i h n. absurd (false≢true (sym n ∙ h)) }
 
-pub resting_more : (t : List ℕ) (word first taken reach left after far b next x y : ℕ) → next ≡ minus left (2 ^ b)
-    → (x ≡ after) × (y ≡ far) × Quiet t after far (first + b) → Resting t word first taken reach left after far
-    → Resting t word first taken reach next x y
-resting_more t word first taken reach left after far b next x y en (ex, ey, here) so = record {
+pub resting_more : (t : List ℕ) (s taken reach left after far i next x y : ℕ) → next ≡ minus left (2 ^ i)
+    → (x ≡ after) × (y ≡ far) × Quiet t after far i → Resting t s taken reach left after far
+    → Resting t s taken reach next x y
+resting_more t s taken reach left after far i next x y en (ex, ey, here) so = record {
   taken_is = ex ∙ so.taken_is;
   reach_is = ey ∙ so.reach_is;
-  quiet = λ j h n. at j h n (ℕ_discrete j b);
+  quiet = λ j h n. at j h n (ℕ_discrete j i);
 }
   where
-    at : (j : ℕ) → has word j ≡ true → has next j ≡ false → Dec (j ≡ b) → Quiet t taken reach (first + j)
+    at : (j : ℕ) → has s j ≡ true → has next j ≡ false → Dec (j ≡ i) → Quiet t taken reach j
     at j h n (yes z) =
-        subst (λ (k : ℕ). Quiet t taken reach (first + k)) (sym z)
-        (subst (λ (k : ℕ). Quiet t k reach (first + b)) so.taken_is (subst (λ (k : ℕ). Quiet t after k (first + b)) so.reach_is here))
+        subst (Quiet t taken reach) (sym z)
+        (subst (λ (k : ℕ). Quiet t k reach i) so.taken_is (subst (λ (k : ℕ). Quiet t after k i) so.reach_is here))
     at j h n (no z) =
         so.quiet j h
         (not_true_false (has left j) (λ q.
         false≢true
-        (sym n ∙ ap (λ (k : ℕ). has k j) en ∙ has_minus_power left b j
-        ∙ and_intro (has left j) (not (eqb j b)) q (ap not (ne_eqb j b z)))))
+        (sym n ∙ ap (λ (k : ℕ). has k j) en ∙ has_minus_power left i j
+        ∙ and_intro (has left j) (not (eqb j i)) q (ap not (ne_eqb j i z)))))
 
-pub resting_all : (t : List ℕ) (word first taken reach left after far : ℕ) → left ≡ 0 → Resting t word first taken reach left after far
-    → Still t word first taken reach after far
-resting_all t word first taken reach left after far e so = record {
+pub resting_all : (t : List ℕ) (s taken reach left after far : ℕ) → left ≡ 0 → Resting t s taken reach left after far
+    → Still t s taken reach after far
+resting_all t s taken reach left after far e so = record {
   taken_is = so.taken_is;
   reach_is = so.reach_is;
-  quiet = λ b h. so.quiet b h (ap (λ (x : ℕ). has x b) e ∙ has_empty b);
+  quiet = λ i h. so.quiet i h (ap (λ (x : ℕ). has x i) e ∙ has_empty i);
 }
 
--- both words rest: none of the set is left
-pub still_all : (t : List ℕ) (chosen taken reach hi lo x y z w : ℕ) → lo < 2 ^ 64 → joined hi lo ≡ minus chosen taken
-    → Still t lo 0 taken reach x y → Still t hi 64 x y z w → (k : ℕ) → has chosen k ≡ true → Quiet t z w k
-still_all t chosen taken reach hi lo x y z w fits e first second k h =
-    subst (λ (i : ℕ). Quiet t i w k) (sym (second.taken_is ∙ first.taken_is))
-    (subst (λ (i : ℕ). Quiet t taken i k) (sym (second.reach_is ∙ first.reach_is)) (λ b. go b (has_cases taken k) (dec_lt k 64)))
+-- what is left rests: none of the set is left
+pub still_all : (t : List ℕ) (chosen taken reach left x y : ℕ) → left ≡ minus chosen taken
+    → Still t left taken reach x y → (k : ℕ) → has chosen k ≡ true → Quiet t x y k
+still_all t chosen taken reach left x y e still k h =
+    subst (λ (i : ℕ). Quiet t i y k) (sym still.taken_is)
+    (subst (λ (i : ℕ). Quiet t taken i k) (sym still.reach_is) (λ b. go b (has_cases taken k)))
   where
-    there : has taken k ≡ false → has (joined hi lo) k ≡ true
+    there : has taken k ≡ false → has left k ≡ true
     there n = ap (λ (i : ℕ). has i k) e ∙ has_minus chosen taken k ∙ and_intro (has chosen k) (not (has taken k)) h (ap not n)
 
-    go : within (body_at t k) reach ≡ true → (has taken k ≡ true) ⊎ (has taken k ≡ false) → Dec (k < 64) → has taken k ≡ true
-    go b (inl q) l = q
-    go b (inr n) (yes l) =
-        let same : 0 + k ≡ k = omega arith in
-        subst (λ (i : ℕ). Quiet t taken reach i) same (first.quiet k (sym (has_joined_low hi lo k l) ∙ there n)) b
-    go b (inr n) (no l) =
-        let same : 64 + (k - 64) ≡ k = omega arith in
-        subst (λ (i : ℕ). Quiet t taken reach i) same
-        (subst (λ (i : ℕ). Quiet t i reach (64 + (k - 64))) first.taken_is
-        (subst (λ (i : ℕ). Quiet t x i (64 + (k - 64))) first.reach_is
-        (second.quiet (k - 64) (sym (has_joined_high hi lo (k - 64) fits) ∙ ap (has (joined hi lo)) same ∙ there n)))) b
+    go : within (body_at t k) reach ≡ true → (has taken k ≡ true) ⊎ (has taken k ≡ false) → has taken k ≡ true
+    go b (inl q) = q
+    go b (inr n) = still.quiet k (there n) b
 
 -- the rows before a store stay
 module _ (t : List ℕ) (d : ℕ) (u v : List ℕ) (n : ℕ) (stays : (k : ℕ) → k < n → (head_at v k ≡ head_at u k) × (need_at v k ≡ need_at u k) × (body_at v k ≡ body_at u k)) where

@@ -38,11 +38,11 @@ pub record Open (t : List ℕ) (d n s : ℕ) : Type 0 where
 abbrev pub Quiet : List ℕ → ℕ → ℕ → ℕ → Type 0
 Quiet t taken reach i = within (body_at t i) reach ≡ true → has taken i ≡ true
 
--- nothing was taken, and nothing is left to take of the rules of a word, the first of which is rule first
-pub record Still (t : List ℕ) (word first taken reach after far : ℕ) : Type 0 where
+-- nothing was taken, and nothing is left to take of the rules of s
+pub record Still (t : List ℕ) (s taken reach after far : ℕ) : Type 0 where
   pub taken_is : after ≡ taken
   pub reach_is : far ≡ reach
-  pub quiet : (b : ℕ) → has word b ≡ true → Quiet t taken reach (first + b)
+  pub quiet : (i : ℕ) → has s i ≡ true → Quiet t taken reach i
 
 -- the rows of u are those rules of t that can act where w is given
 pub record StrictRules (t : List ℕ) (d w : ℕ) (u : List ℕ) : Type 0 where
