@@ -3,15 +3,15 @@ use mathlib.Core.Path.{◌≡◌, refl, sym, ap, ap₂, ◌∙◌, subst}
 use mathlib.Core.Bool.{Bool, true, false, not, ◌&&◌, ◌||◌, false≢true}
 use mathlib.Core.List.{List}
 use mathlib.Core.Logic.{◌⊎◌, inl, inr, ⊎_elim}
-use Prim.Native.Nat.{ℕ, ◌+◌, ◌-◌, ◌*◌, ◌^◌, ◌<◌, ◌≤◌}
-use native.Mathlib.Decide.{ℕ_discrete, dec_lt}
+use Prim.Native.Nat.{ℕ, ◌+◌, ◌*◌, ◌^◌, ◌<◌}
+use native.Mathlib.Decide.{ℕ_discrete}
 use native.Mathlib.Omega.{arith}
 use lib.Dec.{eqb}
 use lib.ListN.{length, get_or, set}
 use borrow.Author.Tests.{ne_eqb, eq-eqb}
 use Rattle.literals.specs.Sets.{has, insert, minus, LowestBelow}
 use Rattle.literals.specs.Inside.Words.{joined}
-use Rattle.literals.proofs.Tests.{and_intro, and_left, and_right}
+use Rattle.literals.proofs.Tests.{and_intro}
 use Rattle.literals.proofs.Members.{has_empty, has_bound, has_cases, has_minus_power, has_union, has_insert_same, insert_cases}
 use Rattle.excluded.specs.Inside.Rows.{reaches, Begun, low, high, Each, Own, Whole, Gained, Added}
 use Rattle.excluded.proofs.RowWords.{row_reaches, row_same, stored_length, stored_low, stored_high, stored_others}

@@ -121,7 +121,11 @@ fn join(
     ensures { Each (Joined (set_of u) rules.now reach.now) (set_of joint) exclusions.old exclusions.new }
 {
     for literal in joint {
-        store(exclusions, literal, together(rules, keep, base, u, reach, literal));
+        store(
+            exclusions,
+            literal,
+            together(rules, keep, base, u, reach, literal),
+        );
     }
 }
 

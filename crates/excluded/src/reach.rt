@@ -1,5 +1,5 @@
 // The rows before they are filled: two words for each literal y, with a bit for each literal x that Π derives y from.
-ghost use Rattle.std.specs.Prelude.{◌≡◌, ℕ, ◌*◌, ◌<◌, ◌≤◌, length, get_or};
+ghost use Rattle.std.specs.Prelude.{◌≡◌, ℕ, ◌*◌, ◌<◌, get_or};
 ghost use Rattle.literals.specs.Inside.Words.{set_of};
 ghost use Rattle.excluded.specs.Inside.Rows.{Begun, Each, Own, Whole};
 
@@ -7,13 +7,11 @@ use crate::store;
 use literals::LiteralSet;
 
 // The place of each row.
-pub fn place(base: &mut [u64])
-    requires { length base.old ≡ 128 }
-    ensures base_len { length base.new ≡ 128 }
-    ensures by_index { (l : ℕ) → l < 128 → get_or base.new l 0 ≡ 2 * l }
+pub fn place(base: &mut [u64; 128])
+    ensures { (l : ℕ) → l < 128 → get_or base.new l 0 ≡ 2 * l }
 {
-    for l in 0..128 {
-        base[l] = 2 * (l as u64);
+    for (l, row) in base.iter_mut().enumerate() {
+        *row = 2 * (l as u64);
     }
 }
 

@@ -1,5 +1,5 @@
 // The strict rules of a program by themselves, as far as Π does not settle them.
-ghost use Rattle.std.specs.Prelude.{◌≡◌, true, ℕ, ◌+◌, ◌<◌, ◌≤◌, length};
+ghost use Rattle.std.specs.Prelude.{◌≡◌, true, ℕ, ◌+◌, ◌<◌, ◌≤◌};
 ghost use Rattle.literals.specs.Sets.{has as «has_of», union, within as «within_of»};
 ghost use Rattle.literals.specs.Inside.Words.{set_of};
 ghost use Rattle.program.specs.Inside.Table.{head_at, rule_count, Shaped};
@@ -21,8 +21,7 @@ pub struct Progress {
 // so that bodies come before heads where possible.
 pub fn rules(table: &RuleTable, derived: LiteralSet, u: LiteralSet, rules: &mut RuleTable)
     requires { Shaped table.now }
-    ensures { length rules.old ≡ 419
-        → StrictRules table.now (set_of derived) (union (set_of u) (set_of derived)) rules.new }
+    ensures { StrictRules table.now (set_of derived) (union (set_of u) (set_of derived)) rules.new }
 {
     let (chosen, heads) = bearing(table, derived);
     let none = Progress {
@@ -67,7 +66,6 @@ fn grow(
     requires shaped { Shaped table.now }
     requires fact { Open table.now (set_of derived) (rule_count table.now) (set_of chosen) }
     requires taken { Taken table.now (set_of derived) from.n (set_of from.taken) (set_of from.reach) rules.old }
-    ensures rules_len_unchanged { length rules.new ≡ length rules.old }
     ensures reach_value { within_of (set_of from.reach) (set_of result.reach) ≡ true }
     ensures taken_2 { Taken table.now (set_of derived) result.n (set_of result.taken) (set_of result.reach) rules.new }
     ensures by_index { (k : ℕ) → has_of (set_of chosen) k ≡ true → Quiet table.now (set_of result.taken) (set_of result.reach) k }
@@ -93,7 +91,7 @@ fn pass(
     requires shaped { Shaped table.now }
     requires by_index { (i : ℕ) → has_of (set_of left) i ≡ true → (i < rule_count table.now) × (strict_at table.now (set_of derived) i ≡ true) }
     requires taken { Taken table.now (set_of derived) from.n (set_of from.taken) (set_of from.reach) rules.old }
-    ensures rules_len_unchanged { (length rules.new ≡ length rules.old) × (from.n ≤ result.n) }
+    ensures n_value { from.n ≤ result.n }
     ensures reach_value { within_of (set_of from.reach) (set_of result.reach) ≡ true }
     ensures taken_2 { Taken table.now (set_of derived) result.n (set_of result.taken) (set_of result.reach) rules.new }
     ensures still { result.n ≡ from.n → Still table.now (set_of left) (set_of from.taken) (set_of from.reach)
@@ -117,7 +115,7 @@ fn turn(
     requires shaped { Shaped table.now }
     requires i_bound { (i < rule_count table.now) × (strict_at table.now (set_of derived) i ≡ true) }
     requires taken { Taken table.now (set_of derived) p.n (set_of p.taken) (set_of p.reach) rules.old }
-    ensures rules_len_unchanged { (length rules.new ≡ length rules.old) × (p.n ≤ result.n) }
+    ensures n_value { p.n ≤ result.n }
     ensures reach_value { within_of (set_of p.reach) (set_of result.reach) ≡ true }
     ensures taken_2 { Taken table.now (set_of derived) result.n (set_of result.taken) (set_of result.reach) rules.new }
     ensures taken_value { result.n ≡ p.n → (set_of result.taken ≡ set_of p.taken) × (set_of result.reach ≡ set_of p.reach)

@@ -1,5 +1,5 @@
 -- The strict rules by themselves: without those whose head Π derives, and with what Π derives cut from their bodies.
-use Rattle.std.specs.Prelude.{◌≡◌, Bool, true, not, ◌&&◌, List, ℕ, ◌+◌, ◌*◌, ◌^◌, ◌<◌, ◌≤◌, eqb, length, get_or}
+use Rattle.std.specs.Prelude.{◌≡◌, Bool, true, not, ◌&&◌, List, ℕ, ◌*◌, ◌^◌, ◌<◌, ◌≤◌, eqb, length, get_or}
 use Rattle.std.specs.Int.Count.{ones}
 use Rattle.literals.specs.Sets.{has, minus, within}
 use Rattle.program.specs.Program.{Rule, Π}
@@ -25,8 +25,8 @@ pub record StrictRow (t : List ℕ) (d i : ℕ) (u : List ℕ) (j : ℕ) : Type 
 pub record Taken (t : List ℕ) (d n taken reach : ℕ) (u : List ℕ) : Type 0 where
   pub few : n ≤ ones taken
   pub below : taken < 2 ^ 96
-  pub from : length u ≡ 419 → (j : ℕ) → j < n → (k : ℕ) × StrictRow t d k u j
-  pub all : length u ≡ 419 → (k : ℕ) → has taken k ≡ true → (j : ℕ) × (j < n) × StrictRow t d k u j
+  pub from : (j : ℕ) → j < n → (k : ℕ) × StrictRow t d k u j
+  pub all : (k : ℕ) → has taken k ≡ true → (j : ℕ) × (j < n) × StrictRow t d k u j
   pub heads : (k : ℕ) → has taken k ≡ true → has reach (head_at t k) ≡ true
 
 -- s has the numbers of such rules, of those before n all

@@ -1,6 +1,5 @@
 -- `joint::spread` meets its contract.
 use Rattle.excluded.proofs.Crossings.{spread_law}
-use native.Mathlib.Omega.{arith}
 use Rattle.excluded.proofs.joint.spread.Goals as goal
 
 pub returns : goal.returns

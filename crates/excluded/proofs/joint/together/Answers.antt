@@ -1,11 +1,10 @@
 -- `joint::together` meets its contract.
-use mathlib.Core.Path.{refl, sym, subst, ◌∙◌}
+use mathlib.Core.Path.{refl, subst}
 use mathlib.Core.List.{List}
 use Prim.Native.Nat.{ℕ}
 use Rattle.literals.specs.Inside.Words.{set_of}
 use Rattle.literals.proofs.Words.{joined_below}
 use Rattle.rows.specs.Layout.{Rows}
-use Rattle.excluded.proofs.RowWords.{stored_sized}
 use Rattle.excluded.proofs.Fillings.{laid_needs, laid_bearing, laid_placed, row_together}
 use borrow.Author.Rules.{rules}
 use Rattle.excluded.proofs.joint.together.Goals as goal

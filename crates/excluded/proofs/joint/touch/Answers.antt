@@ -1,5 +1,5 @@
 use mathlib.Core.Logic.{inl}
-use mathlib.Core.Path.{sym, ap, ◌∙◌}
+use mathlib.Core.Path.{ap, ◌∙◌}
 use Rattle.literals.specs.Sets.{has}
 use Rattle.literals.specs.Inside.Words.{set_of}
 use Rattle.literals.specs.declared.LiteralSet.{LiteralSet}

@@ -1,10 +1,10 @@
-use mathlib.Core.Path.{refl, ap, ◌∙◌}
+use mathlib.Core.Path.{ap, ◌∙◌}
 use Prim.Native.Nat.{ℕ}
-use Rattle.literals.specs.Sets.{union, insert}
+use Rattle.literals.specs.Sets.{insert}
 use Rattle.literals.specs.Inside.Words.{set_of}
 use Rattle.literals.specs.declared.LiteralSet.{LiteralSet}
-use Rattle.excluded.specs.Inside.Rows.{Gained, Own, Whole, Joined}
-use Rattle.excluded.proofs.Eaches.{going_none, going_more, going_all, added}
+use Rattle.excluded.specs.Inside.Rows.{Own}
+use Rattle.excluded.proofs.Eaches.{going_none, going_more, going_all}
 use borrow.Author.Rules.{rules}
 use Rattle.excluded.proofs.reach.own.Goals as goal
 
