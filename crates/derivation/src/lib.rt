@@ -20,8 +20,7 @@ pub fn close(table: &RuleTable, mask: u64, given: LiteralSet) -> LiteralSet
     requires { Shaped table.now }
     ensures { (p : Program) → Holds p table.now → set_of result ≡ closure (Π_mask mask p.rules) (set_of given) }
 {
-    let gathered = gather(table, mask, given);
-    gathered.set
+    gather(table, mask, given).0
 }
 
 // Two literals exclude each other: Π with both as facts is contradictory.
@@ -35,91 +34,61 @@ pub fn excludes(table: &RuleTable, a: u64, b: u64) -> bool
     close(table, 0, both).contradictory()
 }
 
-// A set, with how many rounds led to it.
-#[derive(Clone, Copy)]
-struct Gathered {
-    set: LiteralSet,
-    rounds: u64,
-}
-
-// A set, with how many bodies have been read in the round.
-#[derive(Clone, Copy)]
-struct Turned {
-    set: LiteralSet,
-    read: u64,
-}
-
-// Rounds, the first of which that adds nothing is the last. Each other one adds a literal, so that there is at most one round
-// more than literals are added.
-fn gather(table: &RuleTable, mask: u64, given: LiteralSet) -> Gathered
+// Rounds, the first of which that adds nothing is the last, and how many there were. Each other one adds a literal, so that
+// there is at most one round more than literals are added.
+fn gather(table: &RuleTable, mask: u64, given: LiteralSet) -> (LiteralSet, u64)
     requires { Shaped table.now }
-    ensures given_bound { result.rounds + ones (set_of given) ≤ ones (set_of result.set) + 1 }
+    ensures given_bound { result.1 + ones (set_of given) ≤ ones (set_of result.0) + 1 }
     ensures gathers { (p : Program) → Holds p table.now
-        → Gathers (Π_mask mask p.rules) (set_of given) (set_of result.set) result.rounds }
+        → Gathers (Π_mask mask p.rules) (set_of given) (set_of result.0) result.1 }
 {
     let mut s = given;
     let mut rounds: u64 = 0;
     loop {
-        let turned = round(table, mask, s);
-        let t = turned.set;
+        let (t, _) = round(table, mask, s);
         rounds += 1;
         if t == s {
-            return Gathered {
-                set: s,
-                rounds: rounds,
-            };
+            return (s, rounds);
         }
         s = t;
     }
 }
 
-// Each rule once, in table order.
-fn round(table: &RuleTable, mask: u64, start: LiteralSet) -> Turned
+// Each rule once, in table order, and how many bodies were read.
+fn round(table: &RuleTable, mask: u64, start: LiteralSet) -> (LiteralSet, u64)
     requires { Shaped table.now }
-    ensures set_value { (within_of (set_of start) (set_of result.set) ≡ true) × (set_of result.set < 2 ^ 128) }
+    ensures set_value { (within_of (set_of start) (set_of result.0) ≡ true) × (set_of result.0 < 2 ^ 128) }
     ensures rounded { (p : Program) → Holds p table.now
-        → Rounded (Π_mask mask p.rules) (set_of start) (set_of result.set) result.read }
+        → Rounded (Π_mask mask p.rules) (set_of start) (set_of result.0) result.1 }
 {
+    let mut s = start;
+    let mut read: u64 = 0;
     let rules = program::rule_count(table);
-    let mut done = Turned {
-        set: start,
-        read: 0,
-    };
-    let mut i: u64 = 0;
-    while i < rules {
-        done = fire(table, mask, i, done);
-        i += 1;
+    for i in 0..rules {
+        (s, read) = fire(table, mask, i, s, read);
     }
-    done
+    (s, read)
 }
 
 // The turn of rule i. A rule that is off, or whose head is there, is passed over; of any other the body is read, which counts,
 // and if the set has all of it the head goes in.
-fn fire(table: &RuleTable, mask: u64, i: u64, done: Turned) -> Turned
+fn fire(table: &RuleTable, mask: u64, i: u64, s: LiteralSet, read: u64) -> (LiteralSet, u64)
     requires i_bound { (i < 96) × (head_at table.now i < 128) }
-    requires read_bound { done.read < 96 }
-    ensures { Fired mask table.now i (set_of done.set) (set_of result.set) done.read result.read }
+    requires read_bound { read < 96 }
+    ensures { Fired mask table.now i (set_of s) (set_of result.0) read result.1 }
 {
-    let s = done.set;
-    let read = done.read;
     if !is_on(table, mask, i) {
-        return Turned { set: s, read: read };
+        return (s, read);
     }
     let head = program::head(table, i);
     if s.has(head) {
-        return Turned { set: s, read: read };
+        return (s, read);
     }
     let counted = read + 1;
     if program::body(table, i).within(s) {
-        return Turned {
-            set: s.insert(head),
-            read: counted,
-        };
+        return (s.insert(head), counted);
     }
-    Turned {
-        set: s,
-        read: counted,
-    }
+    (s, counted)
 }
 
 // Rule i is on: it is strict, or the mask has its bit.

@@ -4,9 +4,9 @@ use mathlib.Core.Bool.{true}
 use mathlib.Core.List.Memᴰ
 use mathlib.Core.List.{List, [], ◌∷◌, Memᴰ}
 use mathlib.Core.Logic.{⊎_elim}
-use Prim.Native.Nat.{ℕ, zero, suc, ◌+◌, ◌<◌, ◌≤◌}
+use Prim.Native.Nat.{ℕ, suc, ◌+◌, ◌<◌, ◌≤◌}
 use native.Mathlib.Omega.{arith}
-use lib.ListN.{get_or, take}
+use lib.ListN.{length, get_or}
 use borrow.Author.Count.{below_more}
 use Rattle.literals.specs.Sets.{has, insert}
 use Rattle.literals.proofs.Members.{has_insert_same, insert_keeps}
@@ -26,19 +26,18 @@ module _ (l : List ℕ) (u n : ℕ) (w : Looked l u n) where
       (below_more _ n (λ k i j. insert_keeps u (literal_of (get_or l n 0)) (literal_of (get_or l k 0)) (w k i j))
       (λ j. has_insert_same u (literal_of (get_or l n 0))))
 
--- where a member of the first n stands
-taken_at : (n : ℕ) (l : List ℕ) (x : ℕ) → Memᴰ x (take n l) → (k : ℕ) × (k < n) × (get_or l k 0 ≡ x)
-taken_at zero l x i = absurd (Memᴰ.not-nil i)
-taken_at (suc n) [] x i = absurd (Memᴰ.not-nil i)
-taken_at (suc n) (y ∷ l) x i =
-    ⊎_elim (λ e. (0, omega arith, sym e)) (λ j. later (taken_at n l x j)) (Memᴰ.cases_cons i)
+-- where a member stands
+stands : (l : List ℕ) (x : ℕ) → Memᴰ x l → (k : ℕ) × (k < length l) × (get_or l k 0 ≡ x)
+stands [] x i = absurd (Memᴰ.not-nil i)
+stands (y ∷ l) x i =
+    ⊎_elim (λ e. (0, omega arith, sym e)) (λ j. later (stands l x j)) (Memᴰ.cases_cons i)
   where
-    later : (k : ℕ) × (k < n) × (get_or l k 0 ≡ x) → (k : ℕ) × (k < suc n) × (get_or (y ∷ l) k 0 ≡ x)
+    later : (k : ℕ) × (k < length l) × (get_or l k 0 ≡ x) → (k : ℕ) × (k < length (y ∷ l)) × (get_or (y ∷ l) k 0 ≡ x)
     later (k, h, e) = (suc k, omega arith, e)
 
-pub looked_all : (l : List ℕ) (u n m : ℕ) → n ≤ m → Looked l u m → Conclusions u (take n l)
-looked_all l u n m q w x i h = go (taken_at n l x i)
+pub looked_all : (l : List ℕ) (u n : ℕ) → length l ≤ n → Looked l u n → Conclusions u l
+looked_all l u n q w x i h = go (stands l x i)
   where
-    go : (k : ℕ) × (k < n) × (get_or l k 0 ≡ x) → has u (literal_of x) ≡ true
+    go : (k : ℕ) × (k < length l) × (get_or l k 0 ≡ x) → has u (literal_of x) ≡ true
     go (k, j, e) =
         subst (λ (y : ℕ). has u (literal_of y) ≡ true) e (w k (omega arith) (subst (λ (y : ℕ). 128 ≤ y) (sym e) h))

@@ -3,24 +3,23 @@ use mathlib.Core.Path.{◌≡◌, refl, sym, ap, ap₂, ◌∙◌, subst}
 use mathlib.Core.Bool.{Bool, true, false, not, ◌&&◌, ◌||◌, false≢true}
 use mathlib.Core.List.{List}
 use mathlib.Core.Logic.{◌⊎◌, inl, inr, ⊎_elim}
-use Prim.Native.Nat.{ℕ, ◌+◌, ◌-◌, ◌*◌, ◌^◌, ◌<◌, ◌≤◌}
+use Prim.Native.Nat.{ℕ, ◌+◌, ◌*◌, ◌^◌, ◌<◌, ◌≤◌}
 use native.Mathlib.Nat.{eq-or-lt_of_le}
-use native.Mathlib.Decide.{ℕ_discrete, dec_lt}
+use native.Mathlib.Decide.{ℕ_discrete}
 use native.Mathlib.Omega.{arith}
 use lib.Dec.{eqb}
-use lib.ListN.{length, get_or, set, length-set}
+use lib.ListN.{length, get_or, set}
 use lib.Seq.{get_or-set_same, get_or-set_other}
 use borrow.Author.Tests.{ne_eqb, eqb-true}
-use Rattle.literals.specs.Sets.{has, minus, union, meets}
+use Rattle.literals.specs.Sets.{has, minus, union, meets, LowestBelow}
 use Rattle.literals.specs.Inside.Words.{joined}
 use Rattle.literals.proofs.Tests.{and_intro, and_left, and_right, or_left, or_right, or_cases}
 use Rattle.literals.proofs.Members.{has_empty, has_bound, has_cases, has_minus, has_minus_power, has_union}
 use Rattle.literals.proofs.Within.{both_meets}
-use Rattle.literals.proofs.Words.{has_joined_low, has_joined_high}
 use Rattle.program.specs.Inside.Table.{head_at, body_at, rule_count}
 use Rattle.excluded.specs.Inside.Exclusions.{excluded_by}
 use Rattle.excluded.specs.Inside.Rows.{reaches, Read, Added}
-use Rattle.excluded.specs.Inside.Joint.{crosses, CrossAt, Crossed, Coherent, Spread, Unspread, Touches, PairAt, Pairs, Copied}
+use Rattle.excluded.specs.Inside.Joint.{crosses, CrossAt, Crossed, Coherent, Spread, Unspread, Touches, PairAt, Pairs}
 
 -- what neither test has
 pub neither : (a b : Bool) → (a || b) ≡ false → (a ≡ false) × (b ≡ false)
@@ -177,93 +176,61 @@ pairs_none c s e = record {
   each = λ b k small l. absurd (omega arith);
 }
 
-pub pairs_all : (c : List ℕ) (n s : ℕ) → n ≡ 64 → Pairs c n s → Pairs c 64 s
-pairs_all c n s e = subst (λ (k : ℕ). Pairs c k s) e
-
 -- what the loop over the atoms keeps
-pub record Crossing (c before after : List ℕ) (n : ℕ) (clashes : Bool) : Type 0 where
-  pub few : n ≤ 64
-  pub sized : length after ≡ length before
-  pub crossed : length before ≡ 256 → Crossed c n after
+pub record Crossing (c after : List ℕ) (n : ℕ) (clashes : Bool) : Type 0 where
+  pub crossed : Crossed c n after
   pub coherent : clashes ≡ false → Coherent c n
 
-pub crossing_none : (c before e : List ℕ) → length e ≡ length before → ((n : ℕ) → get_or e n 0 ≡ 0) → Crossing c before e 0 false
-crossing_none c before e sized zeros = record {
-  few = omega arith;
-  sized = sized;
-  crossed = λ long. crossed_none c e zeros;
+pub crossing_none : (c e : List ℕ) → ((n : ℕ) → get_or e n 0 ≡ 0) → Crossing c e 0 false
+crossing_none c e zeros = record {
+  crossed = crossed_none c e zeros;
   coherent = λ z k a l. absurd (omega arith);
 }
 
-module _ (c before e : List ℕ) (k p q : ℕ) (clashes : Bool) (first : Read c (2 * k) p) (second : Read c (2 * k + 1) q) (l : k < 64)
-    (so : Crossing c before e k clashes) where
-  pub crossing_skip : (x y : Bool) → x ≡ eqb p 0 → y ≡ eqb q 0 → (x || y) ≡ true → Crossing c before e (k + 1) clashes
+module _ (c e : List ℕ) (k p q : ℕ) (clashes : Bool) (first : Read c (2 * k) p) (second : Read c (2 * k + 1) q)
+    (so : Crossing c e k clashes) where
+  pub crossing_skip : (x y : Bool) → x ≡ eqb p 0 → y ≡ eqb q 0 → (x || y) ≡ true → Crossing c e (k + 1) clashes
   crossing_skip x y ex ey none =
       let empty : (eqb p 0 || eqb q 0) ≡ true = rw (sym ex, sym ey) none in
       record {
-        few = omega arith;
-        sized = so.sized;
-        crossed = λ long. crossed_skip c k p q first second e (so.crossed long) empty;
+        crossed = crossed_skip c k p q first second e so.crossed empty;
         coherent = λ z. coherent_skip c k p q first second (so.coherent z) empty;
       }
 
-  pub crossing_more : (f g : List ℕ) (m : Bool) → m ≡ meets p q → length f ≡ length e → (length e ≡ 256 → Added p q e f) → length g ≡ length f
-      → (length f ≡ 256 → Added q p f g) → Crossing c before g (k + 1) (clashes || m)
-  crossing_more f g m em lf one lg two = record {
-    few = omega arith;
-    sized = lg ∙ lf ∙ so.sized;
-    crossed = λ long.
-        let le = so.sized ∙ long in
-        crossed_more c k p q first second e (so.crossed long) f g (one le) (two (lf ∙ le));
+  pub crossing_more : (f g : List ℕ) (m : Bool) → m ≡ meets p q → Added p q e f → Added q p f g → Crossing c g (k + 1) (clashes || m)
+  crossing_more f g m em one two = record {
+    crossed = crossed_more c k p q first second e so.crossed f g one two;
     coherent = λ z.
         let parts = neither clashes m z in
         coherent_more c k p q first second (so.coherent parts.0) (sym em ∙ parts.1);
   }
 
-pub crossing_all : (c before e : List ℕ) (n : ℕ) (clashes : Bool) → 64 ≤ n → Crossing c before e n clashes
-    → (length before ≡ 256 → Crossed c 64 e) × (clashes ≡ false → Coherent c 64)
-crossing_all c before e n clashes l so =
-    let z : n ≡ 64 = omega (arith, so.few) in
-    (λ long. subst (λ (k : ℕ). Crossed c k e) z (so.crossed long), λ f. subst (Coherent c) z (so.coherent f))
-
 -- ---- what touches a body
-pub touches_none : (c : List ℕ) (word first s r : ℕ) → word ≡ 0 → r ≡ s → Touches c word first s r
-touches_none c word first s r e q = rw (e, q) (record {
-  kept = λ a h. h;
-  each = λ b a m. absurd (false≢true (sym (has_empty b) ∙ m));
-})
+-- all that derive a literal of s are found, but for those of literals that are left
+abbrev pub Touching : List ℕ → ℕ → ℕ → ℕ → Type 0
+Touching c s left r = (l a : ℕ) → has s l ≡ true → a < 128 → reaches c l a ≡ true → (has left l ≡ true) ⊎ (has r a ≡ true)
 
-pub touches_more : (c : List ℕ) (word first b s t n r : ℕ) → has word b ≡ true → Read c (first + b) t → n ≡ union s t
-    → Touches c (minus word (2 ^ b)) first n r → Touches c word first s r
-touches_more c word first b s t n r member read en rest = record {
-  kept = λ a h. rest.kept a (ap (λ (y : ℕ). has y a) en ∙ has_union s t a ∙ or_left (has s a) (has t a) h);
-  each = λ j a m small h. at j a m small h (ℕ_discrete j b);
-}
+pub touching_more : (c : List ℕ) (s left b next r t n : ℕ) → LowestBelow 128 left b × (next ≡ minus left (2 ^ b)) → Read c b t → n ≡ union r t
+    → Touching c s left r → Touching c s next n
+touching_more c s left b next r t n (lowest, en) read er so l a m small h = rw (en, er) (go (ℕ_discrete l b) (so l a m small h))
   where
-    at : (j a : ℕ) → has word j ≡ true → a < 128 → reaches c (first + j) a ≡ true → Dec (j ≡ b) → has r a ≡ true
-    at j a m small h (yes z) =
-        rest.kept a
-        (ap (λ (y : ℕ). has y a) en ∙ has_union s t a
-        ∙ or_right (has s a) (has t a) (read.bits a small ∙ subst (λ (k : ℕ). reaches c (first + k) a ≡ true) z h))
-    at j a m small h (no z) =
-        rest.each j a (has_minus_power word b j ∙ and_intro (has word j) (not (eqb j b)) m (ap not (ne_eqb j b z))) small h
+    go : Dec (l ≡ b) → (has left l ≡ true) ⊎ (has r a ≡ true) → (has (minus left (2 ^ b)) l ≡ true) ⊎ (has (union r t) a ≡ true)
+    go (yes z) w =
+        inr (has_union r t a ∙ or_right (has r a) (has t a) (read.bits a small ∙ subst (λ (k : ℕ). reaches c k a ≡ true) z h))
+    go (no z) (inl w) = inl (has_minus_power left b l ∙ and_intro (has left l) (not (eqb l b)) w (ap not (ne_eqb l b z)))
+    go (no z) (inr w) = inr (has_union r t a ∙ or_left (has r a) (has t a) w)
+
+pub touching_all : (c : List ℕ) (s left r : ℕ) → left ≡ 0 → Touching c s left r → Touches c s r
+touching_all c s left r e so l a m small h =
+    ⊎_elim (λ w. absurd (false≢true (sym (has_empty l) ∙ ap (λ (z : ℕ). has z l) (sym e) ∙ w))) (λ w. w) (so l a m small h)
 
 -- those that touch the body of rule i and do not have its head
-pub spread_law : (t c : List ℕ) (i hi lo e y z h k r : ℕ) → lo < 2 ^ 64 → joined hi lo ≡ body_at t i → Touches c lo 0 e y → Touches c hi 64 y z
+pub spread_law : (t c : List ℕ) (i s z h k r : ℕ) → s ≡ body_at t i → Touches c s z
     → h ≡ head_at t i → Read c h k → r ≡ minus z k → (a : ℕ) → a < 128 → has r a ≡ false → Spread t c i a
-spread_law t c i hi lo e y z h k r fits body_is first second eh read er a small out solid x below listed on body = go (has_cases z a)
+spread_law t c i s z h k r body_is touches eh read er a small out solid x below listed on body = go (has_cases z a)
   where
-    touched : (l : ℕ) → has (body_at t i) l ≡ true → reaches c l a ≡ true → Dec (l < 64) → has z a ≡ true
-    touched l m w (yes q) =
-        let n : l ≡ 0 + l = omega arith in
-        second.kept a
-        (first.each l a (sym (has_joined_low hi lo l q) ∙ ap (λ (s : ℕ). has s l) body_is ∙ m) small
-        (subst (λ (j : ℕ). reaches c j a ≡ true) n w))
-    touched l m w (no q) =
-        let n : 64 + (l - 64) ≡ l = omega arith in
-        second.each (l - 64) a
-        (sym (has_joined_high hi lo (l - 64) fits) ∙ ap (has (joined hi lo)) n ∙ ap (λ (s : ℕ). has s l) body_is ∙ m) small
-        (subst (λ (j : ℕ). reaches c j a ≡ true) (sym n) w)
+    touched : (l : ℕ) → has (body_at t i) l ≡ true → reaches c l a ≡ true → has z a ≡ true
+    touched l m w = touches l a (ap (λ (j : ℕ). has j l) body_is ∙ m) small w
 
     known : (b d : Bool) → (b && not d) ≡ false → b ≡ true → d ≡ true
     known true true q m = refl
@@ -278,7 +245,7 @@ spread_law t c i hi lo e y z h k r fits body_is first second eh read er a small 
     go (inr n) =
         or_right (reaches c (head_at t i) a) (reaches c (head_at t i) x)
         (solid x below i listed on (λ l m.
-        ⊎_elim (λ w. absurd (false≢true (sym n ∙ touched l m w (dec_lt l 64)))) (λ w. w) (or_cases (reaches c l a) (reaches c l x) (body l m))))
+        ⊎_elim (λ w. absurd (false≢true (sym n ∙ touched l m w))) (λ w. w) (or_cases (reaches c l a) (reaches c l x) (body l m))))
 
 -- rule after rule
 abbrev pub SpreadTo : List ℕ → List ℕ → ℕ → ℕ → Type 0
@@ -297,21 +264,6 @@ spread_more t c n s r f ef before here a small out i l =
 pub spread_all : (t c : List ℕ) (n s : ℕ) → rule_count t ≤ n → SpreadTo t c n s → (a : ℕ) → a < 128 → has s a ≡ false → Unspread t c a
 spread_all t c n s l before a small out solid x below i listed on body =
     before a small out i (let z : i < n = omega arith in z) solid x below listed on body
-
--- words copied
-pub copied_none : (c d : List ℕ) → length d ≡ 256 → Copied c 0 d
-copied_none c d long = record { sized = long; same = λ k l. absurd (omega arith) }
-
-pub copied_more : (c d : List ℕ) (n : ℕ) → n < 256 → Copied c n d → Copied c (n + 1) (set d n (get_or c n 0))
-copied_more c d n small so = record {
-  sized = length-set d n (get_or c n 0) ∙ so.sized;
-  same = λ k l.
-      ⊎_elim (λ z. subst (λ (j : ℕ). get_or (set d n (get_or c n 0)) j 0 ≡ get_or c j 0) (sym z) (get_or-set_same d n (get_or c n 0) 0 (omega (arith, so.sized))))
-      (λ z. get_or-set_other d n k (get_or c n 0) 0 (λ e. omega arith) ∙ so.same k z) (eq-or-lt_of_le {n = k} {m = n} (omega arith));
-}
-
-pub copied_all : (c d : List ℕ) (n : ℕ) → 256 ≤ n → Copied c n d → Copied c 256 d
-copied_all c d n l so = record { sized = so.sized; same = λ k h. so.same k (omega arith) }
 
 -- doubles stored
 pub doubles_more : (d : List ℕ) (n : ℕ) → n < length d → ((k : ℕ) → k < n → get_or d k 0 ≡ 2 * k) → (k : ℕ) → k < n + 1 → get_or (set d n (2 * n)) k 0 ≡ 2 * k

@@ -21,10 +21,9 @@ use Rattle.rows.specs.Switched.{Named, ClosedIn, NeedsOne}
 use Rattle.rows.specs.Layout.{row_has, HeadWord, Rows, Placed, Bearing}
 use Rattle.excluded.specs.Inside.Exclusions.{excluded_by, Excluded}
 use Rattle.excluded.specs.Inside.Strict.{StrictRules, Reduced, Laid}
-use Rattle.excluded.specs.Inside.Rows.{reaches, Begun, Reached, RowOf, Joined}
-use Rattle.excluded.specs.Inside.Joint.{CrossAt, Crossed, Coherent, Solid, Unspread, PairAt, Pairs, Copied}
+use Rattle.excluded.specs.Inside.Rows.{reaches, Begun, Reached, RowOf, Each, Joined}
+use Rattle.excluded.specs.Inside.Joint.{CrossAt, Crossed, Coherent, Solid, Unspread, PairAt, Pairs}
 use Rattle.excluded.proofs.RowWords.{row_reaches, row_same, row_bit, stored_low, stored_high, stored_others}
-use Rattle.excluded.proofs.Eaches.{Sets}
 
 -- the strict rules, and rows of two words
 pub laid : (t : List ℕ) (d w : ℕ) (u keep base : List ℕ) → Shaped t → StrictRules t d w u → length keep ≡ 128 → length base ≡ 128
@@ -151,24 +150,23 @@ module _ (t keep base : List ℕ) (so : Laid t keep base) where
             ∙ ap (λ (b : Bool). b && has (closure (Π rules) (insert 0 x)) l) (sym n)
 
 -- the rows with a under each literal, filled again
-module _ (t keep base : List ℕ) (so : Laid t keep base) (rules : List Rule) (d u : ℕ) (reduced : Reduced rules d u t) (c b e : List ℕ) (a lo hi s : ℕ)
-    (reached : Reached rules u c) (mine : has u a ≡ true) (copied : Copied c 256 b) (small : a < 128) (fits : lo < 2 ^ 64) (u_is : joined hi lo ≡ u) (below : u < 2 ^ 128)
-    (filled : Rows t keep base (set (set b (2 * a) lo) (2 * a + 1) hi) e) (pairs : Pairs e 64 s) where
+module _ (t keep base : List ℕ) (so : Laid t keep base) (rules : List Rule) (d u : ℕ) (reduced : Reduced rules d u t) (c e : List ℕ) (a lo hi s : ℕ)
+    (reached : Reached rules u c) (mine : has u a ≡ true) (sized : length c ≡ 256) (small : a < 128) (fits : lo < 2 ^ 64) (u_is : joined hi lo ≡ u) (below : u < 2 ^ 128)
+    (filled : Rows t keep base (set (set c (2 * a) lo) (2 * a + 1) hi) e) (pairs : Pairs e 64 s) where
   abbrev start : List ℕ
-  start = set (set b (2 * a) lo) (2 * a + 1) hi
+  start = set (set c (2 * a) lo) (2 * a + 1) hi
 
-  room : 2 * a + 1 < length b
-  room = omega (arith, copied.sized)
+  room : 2 * a + 1 < length c
+  room = omega arith
 
   of_a : (x : ℕ) → x < 128 → reaches start a x ≡ has u x
   of_a x r =
-      row_reaches start a u x r (subst (λ (z : ℕ). z < 2 ^ 64) (sym (stored_low b a lo hi room)) fits)
-      (ap₂ joined (stored_high b a lo hi room) (stored_low b a lo hi room) ∙ u_is)
+      row_reaches start a u x r (subst (λ (z : ℕ). z < 2 ^ 64) (sym (stored_low c a lo hi room)) fits)
+      (ap₂ joined (stored_high c a lo hi room) (stored_low c a lo hi room) ∙ u_is)
 
   of_others : (l x : ℕ) → l < 128 → x < 128 → (l ≡ a → ⊥) → reaches start l x ≡ (has u x && has (closure (Π rules) (insert 0 x)) l)
   of_others l x m r o =
-      row_same b start l x r (stored_others b a lo hi l o)
-      ∙ row_same c b l x r (copied.same (2 * l) (omega arith), copied.same (2 * l + 1) (omega arith)) ∙ reached l x m r
+      row_same c start l x r (stored_others c a lo hi l o) ∙ reached l x m r
 
   abbrev both : ℕ → ℕ
   both x = insert (insert 0 a) x
@@ -273,7 +271,7 @@ solid t keep base so rules d u reduced c reached x r i listed on body = go (has_
 -- the rows that are not joint by what crosses, the joint ones by themselves
 module _ (t keep base : List ℕ) (so : Laid t keep base) (rules : List Rule) (d u j : ℕ) (reduced : Reduced rules d u t) (c e f : List ℕ) (below : u < 2 ^ 128)
     (reached : Reached rules u c) (crossed : Crossed c 64 e)
-    (settled : (a : ℕ) → has u a ≡ true → has j a ≡ false → Coherent c 64 × Unspread t c a) (joined_rows : Sets (Joined u t c) j e f) where
+    (settled : (a : ℕ) → has u a ≡ true → has j a ≡ false → Coherent c 64 × Unspread t c a) (joined_rows : Each (Joined u t c) j e f) where
   reach_of : (l x : ℕ) → l < 128 → has u x ≡ true → reaches c l x ≡ has (closure (Π rules) (insert 0 x)) l
   reach_of l x m h =
       reached l x m (has_bound u 128 x below h) ∙ ap (λ (b : Bool). b && has (closure (Π rules) (insert 0 x)) l) h
@@ -390,8 +388,8 @@ module _ (t keep base : List ℕ) (so : Laid t keep base) (rules : List Rule) (d
       of_reached : (k x : ℕ) → k < 128 → x < 128 → reaches c k x ≡ true → has u x ≡ true
       of_reached k x m r z = and_left (has u x) (has (closure (Π rules) (insert 0 x)) k) (sym (reached k x m r) ∙ z)
 
-  same_row : (a : ℕ) → a < 128 → has j a ≡ false → excluded_by f a ≡ excluded_by e a
-  same_row a m n = let w = joined_rows.others a m n in ap₂ joined w.1 w.0
+  same_row : (a : ℕ) → has j a ≡ false → excluded_by f a ≡ excluded_by e a
+  same_row a n = let w = joined_rows.others a n in ap₂ joined w.1 w.0
 
   pub excluded_all : Excluded rules u f
   excluded_all = record {
@@ -402,9 +400,9 @@ module _ (t keep base : List ℕ) (so : Laid t keep base) (rules : List Rule) (d
       exact : (a b : ℕ) → has u a ≡ true → has u b ≡ true → (has j a ≡ true) ⊎ (has j a ≡ false) → has (excluded_by f a) b ≡ excludes rules a b
       exact a b h i (inl m) = joined_rows.done a m rules d reduced reached h b ∙ ap (λ (z : Bool). z && excludes rules a b) i
       exact a b h i (inr n) =
-          ap (λ (s : ℕ). has s b) (same_row a (has_bound u 128 a below h) n)
+          ap (λ (s : ℕ). has s b) (same_row a n)
           ∙ same_test (has (excluded_by e a) b) (excludes rules a b) (forth a b h i n) (back a b h i n)
 
       only : (a b : ℕ) → has u a ≡ true → has (excluded_by f a) b ≡ true → (has j a ≡ true) ⊎ (has j a ≡ false) → has u b ≡ true
       only a b h i (inl m) = and_left (has u b) (excludes rules a b) (sym (joined_rows.done a m rules d reduced reached h b) ∙ i)
-      only a b h i (inr n) = crossed_only a b h (ap (λ (s : ℕ). has s b) (sym (same_row a (has_bound u 128 a below h) n)) ∙ i)
+      only a b h i (inr n) = crossed_only a b h (ap (λ (s : ℕ). has s b) (sym (same_row a n)) ∙ i)

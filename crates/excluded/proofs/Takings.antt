@@ -3,9 +3,9 @@ use mathlib.Core.Path.{◌≡◌, refl, sym, ap, ◌∙◌, subst}
 use mathlib.Core.Bool.{Bool, true, false, not, false≢true}
 use mathlib.Core.List.{List, Memᴰ}
 use mathlib.Core.Logic.{◌⊎◌, inl, inr, ⊎_elim}
-use Prim.Native.Nat.{ℕ, ◌+◌, ◌-◌, ◌*◌, ◌^◌, ◌<◌, ◌≤◌}
+use Prim.Native.Nat.{ℕ, ◌+◌, ◌*◌, ◌^◌, ◌<◌, ◌≤◌}
 use native.Mathlib.Nat.{eq-or-lt_of_le}
-use native.Mathlib.Decide.{ℕ_discrete, dec_lt}
+use native.Mathlib.Decide.{ℕ_discrete}
 use native.Mathlib.Omega.{arith}
 use lib.Count.{ones-le}
 use lib.Dec.{eqb}
@@ -13,18 +13,17 @@ use lib.ListN.{length, get_or, set}
 use lib.Seq.{get_or-set_same, get_or-set_other}
 use borrow.Author.Tests.{eqb-true, eq-eqb, ne_eqb}
 use Rattle.literals.specs.Sets.{has, insert, minus, union, within}
-use Rattle.literals.specs.Inside.Words.{joined, set_of}
+use Rattle.literals.specs.Inside.Words.{set_of}
 use Rattle.literals.specs.declared.LiteralSet.{LiteralSet}
-use Rattle.literals.proofs.Words.{has_joined_low, has_joined_high}
 use Rattle.literals.proofs.Tests.{not_true_false, and_intro, and_left, and_right, or_left, or_right}
-use Rattle.literals.proofs.Members.{has_empty, has_bound, has_minus_power, has_cases, has_minus, has_union, has_power, has_some, has_not_empty}
+use Rattle.literals.proofs.Members.{has_empty, has_minus_power, has_cases, has_minus, has_union, has_power, has_some, has_not_empty}
 use Rattle.literals.proofs.Members.{has_insert_same, insert_cases, insert_keeps, insert_below}
 use Rattle.literals.proofs.Lists.{has_insert_all, insert_all_cases}
 use Rattle.literals.proofs.Within.{within_each, each_within, within_empty, within_insert, within_union_right, ones_more}
 use Rattle.program.specs.Program.{Kind, strict, defeasible, Rule, Program, is_defeasible, bit_of, rule_at, Π}
 use Rattle.program.specs.Inside.Table.{head_at, body_at, need_at, need_of, rule_count, Holds}
 use Rattle.program.specs.Inside.Store.{with_row, with_counts}
-use Rattle.program.proofs.Stores.{beside_row, row_beside, row_head, row_body, row_need, row_length}
+use Rattle.program.proofs.Stores.{beside_row, row_beside, row_head, row_body, row_need}
 use Rattle.derivation.specs.Closure.{closure}
 use Rattle.derivation.proofs.Rounds.{ClosedUnder}
 use Rattle.derivation.proofs.Closures.{closure_closed, closure_mono}
@@ -37,8 +36,8 @@ pub taken_none : (t : List ℕ) (d taken reach : ℕ) (u : List ℕ) → taken �
 taken_none t d taken reach u e = record {
   few = omega arith;
   below = omega (arith, e);
-  from = λ long j h. absurd (omega arith);
-  all = λ long k h. absurd (lacks k h);
+  from = λ j h. absurd (omega arith);
+  all = λ k h. absurd (lacks k h);
   heads = λ k h. absurd (lacks k h);
 }
   where
@@ -96,79 +95,62 @@ open_more t d n s r listed on e so = rw e (record {
 pub open_all : (t : List ℕ) (d n s : ℕ) → rule_count t ≤ n → Open t d n s → Open t d (rule_count t) s
 open_all t d n s l so = record { only = so.only; each = λ k h. so.each k (omega arith) }
 
--- the rules of both words of what is left
-pub open_left : (t : List ℕ) (d n s taken hi lo : ℕ) → lo < 2 ^ 64 → joined hi lo ≡ minus s taken → Open t d n s
-    → ((b : ℕ) → has lo b ≡ true → (0 + b < rule_count t) × (strict_at t d (0 + b) ≡ true))
-    × ((b : ℕ) → has hi b ≡ true → (64 + b < rule_count t) × (strict_at t d (64 + b) ≡ true))
-open_left t d n s taken hi lo fits e so = (
-  λ b h.
-      let z : 0 + b ≡ b = omega arith in
-      at (0 + b) (ap (has (joined hi lo)) z ∙ has_joined_low hi lo b (has_bound lo 64 b fits h) ∙ h),
-  λ b h. at (64 + b) (has_joined_high hi lo b fits ∙ h),
-)
-  where
-    at : (k : ℕ) → has (joined hi lo) k ≡ true → (k < rule_count t) × (strict_at t d k ≡ true)
-    at k h =
-        so.only k (and_left (has s k) (not (has taken k)) (sym (has_minus s taken k) ∙ ap (λ (x : ℕ). has x k) (sym e) ∙ h))
+-- the rules of what is left
+pub open_left : (t : List ℕ) (d n s taken left : ℕ) → left ≡ minus s taken → Open t d n s
+    → (k : ℕ) → has left k ≡ true → (k < rule_count t) × (strict_at t d k ≡ true)
+open_left t d n s taken left e so k h =
+    so.only k (and_left (has s k) (not (has taken k)) (sym (has_minus s taken k) ∙ ap (λ (x : ℕ). has x k) (sym e) ∙ h))
 
--- a word of rules in which none is taken
-pub record Resting (t : List ℕ) (word first taken reach left after far : ℕ) : Type 0 where
+-- a set of rules in which none is taken
+pub record Resting (t : List ℕ) (s taken reach left after far : ℕ) : Type 0 where
   pub taken_is : after ≡ taken
   pub reach_is : far ≡ reach
-  pub quiet : (b : ℕ) → has word b ≡ true → has left b ≡ false → Quiet t taken reach (first + b)
+  pub quiet : (i : ℕ) → has s i ≡ true → has left i ≡ false → Quiet t taken reach i
 
-pub resting_none : (t : List ℕ) (word first taken reach : ℕ) → Resting t word first taken reach word taken reach
-resting_none t word first taken reach = record { taken_is = refl; reach_is = refl; quiet = λ b h n. absurd (false≢true (sym n ∙ h)) }
+pub resting_none : (t : List ℕ) (s taken reach : ℕ) → Resting t s taken reach s taken reach
+resting_none t s taken reach = record { taken_is = refl; reach_is = refl; quiet = λ i h n. absurd (false≢true (sym n ∙ h)) }
 
-pub resting_more : (t : List ℕ) (word first taken reach left after far b next x y : ℕ) → next ≡ minus left (2 ^ b)
-    → (x ≡ after) × (y ≡ far) × Quiet t after far (first + b) → Resting t word first taken reach left after far
-    → Resting t word first taken reach next x y
-resting_more t word first taken reach left after far b next x y en (ex, ey, here) so = record {
+pub resting_more : (t : List ℕ) (s taken reach left after far i next x y : ℕ) → next ≡ minus left (2 ^ i)
+    → (x ≡ after) × (y ≡ far) × Quiet t after far i → Resting t s taken reach left after far
+    → Resting t s taken reach next x y
+resting_more t s taken reach left after far i next x y en (ex, ey, here) so = record {
   taken_is = ex ∙ so.taken_is;
   reach_is = ey ∙ so.reach_is;
-  quiet = λ j h n. at j h n (ℕ_discrete j b);
+  quiet = λ j h n. at j h n (ℕ_discrete j i);
 }
   where
-    at : (j : ℕ) → has word j ≡ true → has next j ≡ false → Dec (j ≡ b) → Quiet t taken reach (first + j)
+    at : (j : ℕ) → has s j ≡ true → has next j ≡ false → Dec (j ≡ i) → Quiet t taken reach j
     at j h n (yes z) =
-        subst (λ (k : ℕ). Quiet t taken reach (first + k)) (sym z)
-        (subst (λ (k : ℕ). Quiet t k reach (first + b)) so.taken_is (subst (λ (k : ℕ). Quiet t after k (first + b)) so.reach_is here))
+        subst (Quiet t taken reach) (sym z)
+        (subst (λ (k : ℕ). Quiet t k reach i) so.taken_is (subst (λ (k : ℕ). Quiet t after k i) so.reach_is here))
     at j h n (no z) =
         so.quiet j h
         (not_true_false (has left j) (λ q.
         false≢true
-        (sym n ∙ ap (λ (k : ℕ). has k j) en ∙ has_minus_power left b j
-        ∙ and_intro (has left j) (not (eqb j b)) q (ap not (ne_eqb j b z)))))
+        (sym n ∙ ap (λ (k : ℕ). has k j) en ∙ has_minus_power left i j
+        ∙ and_intro (has left j) (not (eqb j i)) q (ap not (ne_eqb j i z)))))
 
-pub resting_all : (t : List ℕ) (word first taken reach left after far : ℕ) → left ≡ 0 → Resting t word first taken reach left after far
-    → Still t word first taken reach after far
-resting_all t word first taken reach left after far e so = record {
+pub resting_all : (t : List ℕ) (s taken reach left after far : ℕ) → left ≡ 0 → Resting t s taken reach left after far
+    → Still t s taken reach after far
+resting_all t s taken reach left after far e so = record {
   taken_is = so.taken_is;
   reach_is = so.reach_is;
-  quiet = λ b h. so.quiet b h (ap (λ (x : ℕ). has x b) e ∙ has_empty b);
+  quiet = λ i h. so.quiet i h (ap (λ (x : ℕ). has x i) e ∙ has_empty i);
 }
 
--- both words rest: none of the set is left
-pub still_all : (t : List ℕ) (chosen taken reach hi lo x y z w : ℕ) → lo < 2 ^ 64 → joined hi lo ≡ minus chosen taken
-    → Still t lo 0 taken reach x y → Still t hi 64 x y z w → (k : ℕ) → has chosen k ≡ true → Quiet t z w k
-still_all t chosen taken reach hi lo x y z w fits e first second k h =
-    subst (λ (i : ℕ). Quiet t i w k) (sym (second.taken_is ∙ first.taken_is))
-    (subst (λ (i : ℕ). Quiet t taken i k) (sym (second.reach_is ∙ first.reach_is)) (λ b. go b (has_cases taken k) (dec_lt k 64)))
+-- what is left rests: none of the set is left
+pub still_all : (t : List ℕ) (chosen taken reach left x y : ℕ) → left ≡ minus chosen taken
+    → Still t left taken reach x y → (k : ℕ) → has chosen k ≡ true → Quiet t x y k
+still_all t chosen taken reach left x y e still k h =
+    subst (λ (i : ℕ). Quiet t i y k) (sym still.taken_is)
+    (subst (λ (i : ℕ). Quiet t taken i k) (sym still.reach_is) (λ b. go b (has_cases taken k)))
   where
-    there : has taken k ≡ false → has (joined hi lo) k ≡ true
+    there : has taken k ≡ false → has left k ≡ true
     there n = ap (λ (i : ℕ). has i k) e ∙ has_minus chosen taken k ∙ and_intro (has chosen k) (not (has taken k)) h (ap not n)
 
-    go : within (body_at t k) reach ≡ true → (has taken k ≡ true) ⊎ (has taken k ≡ false) → Dec (k < 64) → has taken k ≡ true
-    go b (inl q) l = q
-    go b (inr n) (yes l) =
-        let same : 0 + k ≡ k = omega arith in
-        subst (λ (i : ℕ). Quiet t taken reach i) same (first.quiet k (sym (has_joined_low hi lo k l) ∙ there n)) b
-    go b (inr n) (no l) =
-        let same : 64 + (k - 64) ≡ k = omega arith in
-        subst (λ (i : ℕ). Quiet t taken reach i) same
-        (subst (λ (i : ℕ). Quiet t i reach (64 + (k - 64))) first.taken_is
-        (subst (λ (i : ℕ). Quiet t x i (64 + (k - 64))) first.reach_is
-        (second.quiet (k - 64) (sym (has_joined_high hi lo (k - 64) fits) ∙ ap (has (joined hi lo)) same ∙ there n)))) b
+    go : within (body_at t k) reach ≡ true → (has taken k ≡ true) ⊎ (has taken k ≡ false) → has taken k ≡ true
+    go b (inl q) = q
+    go b (inr n) = still.quiet k (there n) b
 
 -- the rows before a store stay
 module _ (t : List ℕ) (d : ℕ) (u v : List ℕ) (n : ℕ) (stays : (k : ℕ) → k < n → (head_at v k ≡ head_at u k) × (need_at v k ≡ need_at u k) × (body_at v k ≡ body_at u k)) where
@@ -184,7 +166,7 @@ module _ (t : List ℕ) (d : ℕ) (u v : List ℕ) (n : ℕ) (stays : (k : ℕ) 
 
 module _ (t : List ℕ) (d i n taken reach : ℕ) (u : List ℕ) (h : ℕ) (body : LiteralSet) (room : i < 96) (listed : i < rule_count t)
     (on : strict_at t d i ≡ true) (fresh : has taken i ≡ false) (head_is : h ≡ head_at t i) (body_is : set_of body ≡ minus (body_at t i) d)
-    (fits : set_of body < 2 ^ 128) (so : Taken t d n taken reach u) where
+    (fits : set_of body < 2 ^ 128) (long : length u ≡ 419) (so : Taken t d n taken reach u) where
   abbrev v : List ℕ
   v = with_row u n h body 0
 
@@ -197,49 +179,45 @@ module _ (t : List ℕ) (d i n taken reach : ℕ) (u : List ℕ) (h : ℕ) (body
         rw (row_beside u n h body 0 (4 * k + 1) (beside_row n k 1 apart (omega arith)), row_beside u n h body 0 (4 * k + 2) (beside_row n k 2 apart (omega arith))) refl,
       )
 
-  new : length v ≡ 419 → StrictRow t d i v n
-  new long =
-      let l : length u ≡ 419 = sym (row_length u n h body 0) ∙ long in
+  new : StrictRow t d i v n
+  new =
       let few = taken_room i room fresh so in
       record {
         listed = listed;
         strictly = on;
-        head_is = row_head u n h body 0 few l ∙ head_is;
-        need_is = row_need u n h body 0 few l;
-        body_is = row_body u n h body 0 few l ∙ body_is;
-        small = subst (λ (x : ℕ). x < 2 ^ 128) (sym (row_body u n h body 0 few l)) fits;
+        head_is = row_head u n h body 0 few long ∙ head_is;
+        need_is = row_need u n h body 0 few long;
+        body_is = row_body u n h body 0 few long ∙ body_is;
+        small = subst (λ (x : ℕ). x < 2 ^ 128) (sym (row_body u n h body 0 few long)) fits;
       }
 
   pub taken_more : Taken t d (n + 1) (insert taken i) (insert reach h) (with_row u n h body 0)
   taken_more = record {
     few = omega (arith, so.few, ones_more taken (insert taken i) (within_insert taken i) (λ e. false≢true (sym fresh ∙ ap (λ (x : ℕ). has x i) e ∙ has_insert_same taken i)));
     below = insert_below 96 taken i so.below room;
-    from = λ long j l. from_at long j (eq-or-lt_of_le {n = j} {m = n} (omega arith));
-    all = λ long k q.
-        ⊎_elim (λ z. old long k (so.all (sym (row_length u n h body 0) ∙ long) k z))
-        (λ z. (n, omega arith, subst (λ (x : ℕ). StrictRow t d x v n) (sym z) (new long))) (insert_cases taken i k q);
+    from = λ j l. from_at j (eq-or-lt_of_le {n = j} {m = n} (omega arith));
+    all = λ k q.
+        ⊎_elim (λ z. old k (so.all k z))
+        (λ z. (n, omega arith, subst (λ (x : ℕ). StrictRow t d x v n) (sym z) new)) (insert_cases taken i k q);
     heads = λ k q.
         ⊎_elim (λ z. insert_keeps reach h (head_at t k) (so.heads k z))
         (λ z. ap (has (insert reach h)) (ap (head_at t) z ∙ sym head_is) ∙ has_insert_same reach h) (insert_cases taken i k q);
   }
     where
-      from_at : length v ≡ 419 → (j : ℕ) → (j ≡ n) ⊎ (j < n) → (k : ℕ) × StrictRow t d k v j
-      from_at long j (inl e) = (i, subst (StrictRow t d i v) (sym e) (new long))
-      from_at long j (inr l) =
-          let was = so.from (sym (row_length u n h body 0) ∙ long) j l in
-          (was.0, row_stays t d u v n stays was.0 j l was.1)
+      from_at : (j : ℕ) → (j ≡ n) ⊎ (j < n) → (k : ℕ) × StrictRow t d k v j
+      from_at j (inl e) = (i, subst (StrictRow t d i v) (sym e) new)
+      from_at j (inr l) = let was = so.from j l in (was.0, row_stays t d u v n stays was.0 j l was.1)
 
-      old : length v ≡ 419 → (k : ℕ) → ((j : ℕ) × (j < n) × StrictRow t d k u j) → (j : ℕ) × (j < n + 1) × StrictRow t d k v j
-      old long k (j, l, row) = (j, omega arith, row_stays t d u v n stays k j l row)
+      old : (k : ℕ) → ((j : ℕ) × (j < n) × StrictRow t d k u j) → (j : ℕ) × (j < n + 1) × StrictRow t d k v j
+      old k (j, l, row) = (j, omega arith, row_stays t d u v n stays k j l row)
 
 -- a rule that is taken
 pub turn_takes : (t : List ℕ) (d i n taken reach : ℕ) (u : List ℕ) (h : ℕ) (body : LiteralSet) → i < 96 → i < rule_count t → strict_at t d i ≡ true
-    → has taken i ≡ false → h ≡ head_at t i → set_of body ≡ minus (body_at t i) d → set_of body < 2 ^ 128 → Taken t d n taken reach u
+    → has taken i ≡ false → h ≡ head_at t i → set_of body ≡ minus (body_at t i) d → set_of body < 2 ^ 128 → length u ≡ 419 → Taken t d n taken reach u
     → (v : List ℕ) → v ≡ with_row u n h body 0 → (after : ℕ) → after ≡ insert taken i → (far : ℕ) → far ≡ insert reach h
-    → (length v ≡ length u) × (within reach far ≡ true) × Taken t d (n + 1) after far v
-turn_takes t d i n taken reach u h body room listed on fresh eh eb fits so v ev after ea far ef =
-    rw (ev, ea, ef)
-    (row_length u n h body 0, within_insert reach h, taken_more t d i n taken reach u h body room listed on fresh eh eb fits so)
+    → (within reach far ≡ true) × Taken t d (n + 1) after far v
+turn_takes t d i n taken reach u h body room listed on fresh eh eb fits long so v ev after ea far ef =
+    rw (ev, ea, ef) (within_insert reach h, taken_more t d i n taken reach u h body room listed on fresh eh eb fits long so)
 
 -- all are taken, and the count is stored
 pub taken_all : (t : List ℕ) (d w n taken reach : ℕ) (u : List ℕ) → within w reach ≡ true → length u ≡ 419 → Taken t d n taken reach u
@@ -248,11 +226,11 @@ taken_all t d w n taken reach u given long so chosen is quiet = record {
   few = omega (arith, count, taken_most so);
   from = λ j h.
       let g : j < n = omega (arith, count) in
-      let was = so.from long j g in
+      let was = so.from j g in
       (was.0, row_stays t d u v n stays was.0 j g was.1);
   reach = reach;
   given = given;
-  all = λ k h on b. at k (so.all long k (quiet k (is.each k h on) b));
+  all = λ k h on b. at k (so.all k (quiet k (is.each k h on) b));
   heads = λ k h on b. so.heads k (quiet k (is.each k h on) b);
 }
   where

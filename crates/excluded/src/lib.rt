@@ -7,6 +7,7 @@ ghost use Rattle.program.specs.Program.{Program, Π};
 ghost use Rattle.program.specs.Inside.Table.{Holds, Shaped};
 ghost use Rattle.derivation.specs.Closure.{closure};
 ghost use Rattle.excluded.specs.Inside.Exclusions.{excluded_by, Excluded, Conclusions};
+ghost use Rattle.excluded.specs.Inside.Rows.{Read};
 
 use argument::numbers;
 use literals::LiteralSet;
@@ -22,14 +23,10 @@ pub fn conclusions(arguments: &[u32], count: usize) -> LiteralSet
     ensures { Conclusions (set_of result) (take count arguments.now) }
 {
     let mut found = LiteralSet::empty();
-    let mut i: usize = 0;
-    while i < count {
-        let x = arguments[i];
-        i += 1;
-        if x < 128 {
-            continue;
+    for x in &arguments[..count] {
+        if *x >= 128 {
+            found = found.insert(numbers::literal_of(*x));
         }
-        found = found.insert(numbers::literal_of(x));
     }
     found
 }
@@ -53,21 +50,21 @@ pub fn fill(table: &RuleTable, derived: LiteralSet, u: LiteralSet, exclusions: &
 }
 
 // The row of a literal.
-pub fn entry(exclusions: &[u64; 256], literal: u64) -> LiteralSet
+pub fn entry(rows: &[u64; 256], literal: u64) -> LiteralSet
     requires { literal < 128 }
-    ensures { set_of result ≡ excluded_by exclusions.now literal }
+    ensures row { set_of result ≡ excluded_by rows.now literal }
+    ensures bits { Read rows.now literal (set_of result) }
 {
     let at = (2 * literal) as usize;
-    LiteralSet::of_words(exclusions[at], exclusions[at + 1])
+    LiteralSet::of_words(rows[at], rows[at + 1])
 }
 
 // Writes the row of a literal.
-pub fn store(exclusions: &mut [u64; 256], literal: u64, excluded: LiteralSet)
+pub fn store(rows: &mut [u64; 256], literal: u64, row: LiteralSet)
     requires { literal < 128 }
-    ensures { exclusions.new
-        ≡ set (set exclusions.old (2 * literal) excluded.lo) (2 * literal + 1) excluded.hi }
+    ensures { rows.new ≡ set (set rows.old (2 * literal) row.lo) (2 * literal + 1) row.hi }
 {
     let at = (2 * literal) as usize;
-    exclusions[at] = excluded.lo;
-    exclusions[at + 1] = excluded.hi;
+    rows[at] = row.lo;
+    rows[at + 1] = row.hi;
 }

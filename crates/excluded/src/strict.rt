@@ -1,11 +1,11 @@
 // The strict rules of a program by themselves, as far as Π does not settle them.
-ghost use Rattle.std.specs.Prelude.{◌≡◌, true, ℕ, ◌+◌, ◌<◌, ◌≤◌, length};
+ghost use Rattle.std.specs.Prelude.{◌≡◌, true, ℕ, ◌+◌, ◌<◌, ◌≤◌};
 ghost use Rattle.literals.specs.Sets.{has as «has_of», union, within as «within_of»};
 ghost use Rattle.literals.specs.Inside.Words.{set_of};
 ghost use Rattle.program.specs.Inside.Table.{head_at, rule_count, Shaped};
 ghost use Rattle.excluded.specs.Inside.Strict.{strict_at, Taken, Open, Quiet, Still, StrictRules};
 
-use literals::{LiteralSet, masks};
+use literals::LiteralSet;
 use program::RuleTable;
 
 // How many rules are taken, and which; the literals that they reach.
@@ -16,63 +16,43 @@ pub struct Progress {
     pub reach: LiteralSet,
 }
 
-// The numbers of some rules, and their heads.
-#[derive(Clone, Copy)]
-pub struct Chosen {
-    pub rules: LiteralSet,
-    pub heads: LiteralSet,
-}
-
 // Writes the strict rules whose head Π does not derive as a rule table of their own, with what Π derives cut from their bodies.
 // A rule whose body is out of reach, where u is given, never acts and is left out. Literals that are heads are given late,
 // so that bodies come before heads where possible.
 pub fn rules(table: &RuleTable, derived: LiteralSet, u: LiteralSet, rules: &mut RuleTable)
     requires { Shaped table.now }
-    ensures { length rules.old ≡ 419
-        → StrictRules table.now (set_of derived) (union (set_of u) (set_of derived)) rules.new }
+    ensures { StrictRules table.now (set_of derived) (union (set_of u) (set_of derived)) rules.new }
 {
-    let all = bearing(table, derived);
-    let chosen = all.rules;
-    let heads = all.heads;
+    let (chosen, heads) = bearing(table, derived);
     let none = Progress {
         n: 0,
         taken: LiteralSet::empty(),
         reach: u.minus(heads).union(derived),
     };
     let some = grow(table, derived, chosen, none, rules);
-    let taken = some.taken;
-    let reach = some.reach;
     let more = Progress {
         n: some.n,
-        taken: taken,
-        reach: reach.union(u.union(derived)),
+        taken: some.taken,
+        reach: some.reach.union(u.union(derived)),
     };
     let last = grow(table, derived, chosen, more, rules);
     program::store_counts(rules, last.n, 0, 0);
 }
 
-// The strict rules whose head is not derived.
-fn bearing(table: &RuleTable, derived: LiteralSet) -> Chosen
+// The strict rules whose head is not derived, and their heads.
+fn bearing(table: &RuleTable, derived: LiteralSet) -> (LiteralSet, LiteralSet)
     requires { Shaped table.now }
-    ensures { Open table.now (set_of derived) (rule_count table.now) (set_of result.rules) }
+    ensures { Open table.now (set_of derived) (rule_count table.now) (set_of result.0) }
 {
-    let count = program::rule_count(table);
     let mut rules = LiteralSet::empty();
     let mut heads = LiteralSet::empty();
-    let mut i: u64 = 0;
-    while i < count {
-        if !bears(table, i, derived) {
-            i += 1;
-            continue;
+    for i in 0..program::rule_count(table) {
+        if bears(table, i, derived) {
+            rules = rules.insert(i);
+            heads = heads.insert(program::head(table, i));
         }
-        rules = rules.insert(i);
-        heads = heads.insert(program::head(table, i));
-        i += 1;
     }
-    Chosen {
-        rules: rules,
-        heads: heads,
-    }
+    (rules, heads)
 }
 
 // Takes rules of a set until none is left whose body is in reach.
@@ -86,7 +66,6 @@ fn grow(
     requires shaped { Shaped table.now }
     requires fact { Open table.now (set_of derived) (rule_count table.now) (set_of chosen) }
     requires taken { Taken table.now (set_of derived) from.n (set_of from.taken) (set_of from.reach) rules.old }
-    ensures rules_len_unchanged { length rules.new ≡ length rules.old }
     ensures reach_value { within_of (set_of from.reach) (set_of result.reach) ≡ true }
     ensures taken_2 { Taken table.now (set_of derived) result.n (set_of result.taken) (set_of result.reach) rules.new }
     ensures by_index { (k : ℕ) → has_of (set_of chosen) k ≡ true → Quiet table.now (set_of result.taken) (set_of result.reach) k }
@@ -94,40 +73,33 @@ fn grow(
     let mut p = from;
     loop {
         let n = p.n;
-        let taken = p.taken;
-        let left = chosen.minus(taken);
-        p = pass(table, derived, left.lo, 0, p, rules);
-        p = pass(table, derived, left.hi, 64, p, rules);
-        let next = p.n;
-        if next == n {
+        p = pass(table, derived, chosen.minus(p.taken), p, rules);
+        if p.n == n {
             return p;
         }
     }
 }
 
-// Each rule of a word once, the first of which is rule `first`.
+// Each rule of a set once.
 fn pass(
     table: &RuleTable,
     derived: LiteralSet,
-    word: u64,
-    first: u64,
+    left: LiteralSet,
     from: Progress,
     rules: &mut RuleTable,
 ) -> Progress
     requires shaped { Shaped table.now }
-    requires by_index { (b : ℕ) → has_of word b ≡ true → (first + b < rule_count table.now) × (strict_at table.now (set_of derived) (first + b) ≡ true) }
+    requires by_index { (i : ℕ) → has_of (set_of left) i ≡ true → (i < rule_count table.now) × (strict_at table.now (set_of derived) i ≡ true) }
     requires taken { Taken table.now (set_of derived) from.n (set_of from.taken) (set_of from.reach) rules.old }
-    ensures rules_len_unchanged { (length rules.new ≡ length rules.old) × (from.n ≤ result.n) }
+    ensures n_value { from.n ≤ result.n }
     ensures reach_value { within_of (set_of from.reach) (set_of result.reach) ≡ true }
     ensures taken_2 { Taken table.now (set_of derived) result.n (set_of result.taken) (set_of result.reach) rules.new }
-    ensures still { result.n ≡ from.n → Still table.now word first (set_of from.taken) (set_of from.reach)
+    ensures still { result.n ≡ from.n → Still table.now (set_of left) (set_of from.taken) (set_of from.reach)
         (set_of result.taken) (set_of result.reach) }
 {
     let mut p = from;
-    let mut left = word;
-    while left != 0 {
-        p = turn(table, first + masks::lowest(left), derived, p, rules);
-        left = masks::rest(left);
+    for i in left {
+        p = turn(table, i, derived, p, rules);
     }
     p
 }
@@ -143,28 +115,25 @@ fn turn(
     requires shaped { Shaped table.now }
     requires i_bound { (i < rule_count table.now) × (strict_at table.now (set_of derived) i ≡ true) }
     requires taken { Taken table.now (set_of derived) p.n (set_of p.taken) (set_of p.reach) rules.old }
-    ensures rules_len_unchanged { (length rules.new ≡ length rules.old) × (p.n ≤ result.n) }
+    ensures n_value { p.n ≤ result.n }
     ensures reach_value { within_of (set_of p.reach) (set_of result.reach) ≡ true }
     ensures taken_2 { Taken table.now (set_of derived) result.n (set_of result.taken) (set_of result.reach) rules.new }
     ensures taken_value { result.n ≡ p.n → (set_of result.taken ≡ set_of p.taken) × (set_of result.reach ≡ set_of p.reach)
         × Quiet table.now (set_of p.taken) (set_of p.reach) i }
 {
-    let taken = p.taken;
-    if taken.has(i) {
+    if p.taken.has(i) {
         return p;
     }
     let body = program::body(table, i);
-    let reach = p.reach;
-    if !body.within(reach) {
+    if !body.within(p.reach) {
         return p;
     }
-    let n = p.n;
     let head = program::head(table, i);
-    program::store_row(rules, n, head, body.minus(derived), 0);
+    program::store_row(rules, p.n, head, body.minus(derived), 0);
     Progress {
-        n: n + 1,
-        taken: taken.insert(i),
-        reach: reach.insert(head),
+        n: p.n + 1,
+        taken: p.taken.insert(i),
+        reach: p.reach.insert(head),
     }
 }
 

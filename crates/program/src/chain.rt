@@ -16,15 +16,11 @@ fn hand_on(table: &mut RuleTable, bits: u64, k: u64)
     if handed == 0 {
         return;
     }
-    let mut i: u64 = 0;
-    while i < bits {
+    for i in 0..bits {
         let own = beaten(table, i);
-        if !masks::has(own, k) {
-            i += 1;
-            continue;
+        if masks::has(own, k) {
+            store_beaten(table, i, own | handed);
         }
-        store_beaten(table, i, own | handed);
-        i += 1;
     }
 }
 
@@ -37,9 +33,7 @@ pub fn all(table: &mut RuleTable, bits: u64, pairs: usize)
     if pairs == 0 {
         return;
     }
-    let mut k: u64 = 0;
-    while k < bits {
+    for k in 0..bits {
         hand_on(table, bits, k);
-        k += 1;
     }
 }

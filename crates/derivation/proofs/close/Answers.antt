@@ -3,4 +3,4 @@ use Rattle.derivation.proofs.Gatherings.{gathers_closure}
 use Rattle.derivation.proofs.close.Goals as goal
 
 pub returns : goal.returns
-returns c p h = gathers_closure _ (c.gather-gathered.ensures.gathers p h)
+returns c p h = gathers_closure _ (c.gather.ensures.gathers p h)

@@ -1,15 +1,12 @@
 use Rattle.excluded.proofs.Concluded.{looked_skip, looked_more, looked_all}
-use native.Mathlib.Omega.{arith}
 use Rattle.excluded.proofs.conclusions.Goals as goal
+use Rattle.excluded.proofs.conclusions.Goals.{then-x-ge128, else-x-ge128}
 
-pub loop-i-init : goal.loop-i-init
-loop-i-init c k l = absurd (omega arith)
-
-pub loop-i-preserved-then-x-lt128 : goal.loop-i-preserved-then-x-lt128
-loop-i-preserved-then-x-lt128 c = looked_skip c.args.arguments.now _ _ c.loop-i.invariant c.if-x-lt128.true
-
-pub loop-i-preserved : goal.loop-i-preserved
-loop-i-preserved c = looked_more c.args.arguments.now _ _ c.loop-i.invariant _ _ c.literal_of.ensures.0 c.insert-found.ensures
+pub loop-x-preserved : goal.loop-x-preserved
+loop-x-preserved c = elim c.if-x-ge128.branch [
+  | then-x-ge128 w ↦ rw w.found-is (looked_more _ _ _ c.loop-x.invariant _ _ w.literal_of.ensures.0 w.insert-found.ensures)
+  | else-x-ge128 w ↦ rw w.found-is (looked_skip _ _ _ c.loop-x.invariant w.if-x-ge128.false)
+]
 
 pub returns : goal.returns
-returns c = looked_all c.args.arguments.now _ _ c.loop-i.i c.loop-i-test.false c.loop-i.invariant
+returns c = looked_all _ _ c.loop-x.x-index c.loop-x-test.false c.loop-x.invariant

@@ -1,11 +1,8 @@
 -- `conclusions` meets its contract: the literals of the arguments that are passed are found.
-use Prim.Native.Nat.{◌-◌}
+use lib.ListN.{take}
 use Rattle.literals.specs.Inside.Words.{set_of}
 use Rattle.excluded.proofs.Concluded.{Looked}
 use Rattle.excluded.proofs.conclusions.Given as goal
 
-abbrev pub invariant-loop-i : goal.invariant-loop-i
-invariant-loop-i l = Looked l.arguments (set_of l.found) l.i
-
-abbrev pub decreases-loop-i : goal.decreases-loop-i
-decreases-loop-i l = l.count - l.i
+abbrev pub invariant-loop-x : goal.invariant-loop-x
+invariant-loop-x l = Looked (take l.fn.count l.arguments) (set_of l.found) l.x-index

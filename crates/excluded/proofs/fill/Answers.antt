@@ -1,5 +1,5 @@
 -- `fill` meets its contract: the strict rules, what each literal derives, and then the table.
-use mathlib.Core.Path.{refl, sym, ◌∙◌}
+use mathlib.Core.Path.{refl}
 use lib.ListN.{replicate, get_or-replicate}
 use Rattle.literals.specs.Sets.{union}
 use Rattle.literals.specs.Inside.Words.{set_of}
@@ -17,28 +17,19 @@ module _ (c : After-start) where
   lies : Laid c.rules.new.rules (replicate 128 1) c.place.new.base
   lies =
       laid c.args.table.now (set_of c.args.derived) (union (set_of c.args.u) (set_of c.args.derived)) _ (replicate 128 1) _ c.requires
-      (c.rules.ensures refl) refl c.place.ensures.base_len (λ l h. get_or-replicate 128 l 1 0 h)
-      c.place.ensures.by_index
-
-pub slice_bounds-fill-end-3 : goal.slice_bounds-fill-end-3
-slice_bounds-fill-end-3 c = sym (c.start.ensures refl (replicate_zero 256)).sized
+      c.rules.ensures refl c.place.array_long (λ l h. get_or-replicate 128 l 1 0 h)
+      c.place.ensures
 
 pub fill-requires : goal.fill-requires
 fill-requires c = record {
   shaped = (lies (goal.at.fill-requires c).After-start).shaped;
   needs_one = laid_needs _ _ _ (lies (goal.at.fill-requires c).After-start);
   bearing = laid_bearing _ _ _ (lies (goal.at.fill-requires c).After-start);
-  placed = laid_placed _ _ _ (lies (goal.at.fill-requires c).After-start) _ (c.start.ensures refl (replicate_zero 256)).sized;
+  placed = laid_placed _ _ _ (lies (goal.at.fill-requires c).After-start) _ c.start.array_long;
 }
-
-pub slice_bounds-fill-end-6 : goal.slice_bounds-fill-end-6
-slice_bounds-fill-end-6 c = sym (c.fill.ensures.rows_len_unchanged ∙ (c.start.ensures refl (replicate_zero 256)).sized)
 
 pub fill-requires-2 : goal.fill-requires-2
-fill-requires-2 c = record {
-  laid = lies (goal.at.fill-requires-2 c).After-start;
-  reach_len = c.fill.ensures.rows_len_unchanged ∙ (c.start.ensures refl (replicate_zero 256)).sized;
-}
+fill-requires-2 c = record { laid = lies (goal.at.fill-requires-2 c).After-start }
 
 pub returns : goal.returns
 unfolding set_of
@@ -46,7 +37,7 @@ returns c long p holds derived = let so = lies (goal.at.returns c).After-start i
     let known = c.well_formed.1.0 in
     let asked = c.well_formed.1.1.0 in
     let less = reduced p c.args.table.now (set_of c.args.derived) (set_of c.args.u) _ holds
-    (joined_below c.args.derived.hi c.args.derived.lo (search (rules, known)) (search (rules, known))) derived (c.rules.ensures refl) in
-    c.fill-2.ensures long p.rules (set_of c.args.derived) less
+    (joined_below c.args.derived.hi c.args.derived.lo (search (rules, known)) (search (rules, known))) derived c.rules.ensures in
+    c.fill-2.ensures p.rules (set_of c.args.derived) less
     (reached _ _ _ so p.rules (set_of c.args.derived) (set_of c.args.u) less
-    (joined_below c.args.u.hi c.args.u.lo (search (rules, asked)) (search (rules, asked))) _ _ c.fill.ensures.rows (c.start.ensures refl (replicate_zero 256)))
+    (joined_below c.args.u.hi c.args.u.lo (search (rules, asked)) (search (rules, asked))) _ _ c.fill.ensures.rows (c.start.ensures (replicate_zero 256)))

@@ -1,5 +1,5 @@
 -- Two literals together: what their rows say of an atom, and which of them derive more together than each alone.
-use Rattle.std.specs.Prelude.{◌≡◌, Bool, true, ◌&&◌, ◌||◌, List, ℕ, ◌+◌, ◌*◌, ◌<◌, length, get_or}
+use Rattle.std.specs.Prelude.{◌≡◌, Bool, true, ◌&&◌, ◌||◌, List, ℕ, ◌+◌, ◌*◌, ◌<◌}
 use Rattle.literals.specs.Sets.{has, within}
 use Rattle.program.specs.Inside.Table.{head_at, need_at, rule_count}
 use Rattle.rows.specs.Switched.{BodyIn, ClosedIn}
@@ -38,10 +38,9 @@ Spread t c i a = Solid t c → (x : ℕ) → x < 128 → i < rule_count t → wi
 abbrev pub Unspread : List ℕ → List ℕ → ℕ → Type 0
 Unspread t c a = Solid t c → (x : ℕ) → x < 128 → ClosedIn t 0 (λ l. reaches c l a || reaches c l x)
 
--- r has s, and all that derive some literal first + b, b a member of word
-pub record Touches (c : List ℕ) (word first s r : ℕ) : Type 0 where
-  pub kept : (a : ℕ) → has s a ≡ true → has r a ≡ true
-  pub each : (b a : ℕ) → has word b ≡ true → a < 128 → reaches c (first + b) a ≡ true → has r a ≡ true
+-- r has all that derive some literal of s
+abbrev pub Touches : List ℕ → ℕ → ℕ → Type 0
+Touches c s r = (l a : ℕ) → has s l ≡ true → a < 128 → reaches c l a ≡ true → has r a ≡ true
 
 -- an atom of the first n of which b has both
 pub record PairAt (c : List ℕ) (n b : ℕ) : Type 0 where
@@ -55,8 +54,3 @@ pub record PairAt (c : List ℕ) (n b : ℕ) : Type 0 where
 pub record Pairs (c : List ℕ) (n s : ℕ) : Type 0 where
   pub found : (b : ℕ) → has s b ≡ true → PairAt c n b
   pub each : (b k : ℕ) → b < 128 → k < n → reaches c (2 * k) b ≡ true → reaches c (2 * k + 1) b ≡ true → has s b ≡ true
-
--- d has the first n words of c
-pub record Copied (c : List ℕ) (n : ℕ) (d : List ℕ) : Type 0 where
-  pub sized : length d ≡ 256
-  pub same : (k : ℕ) → k < n → get_or d k 0 ≡ get_or c k 0

@@ -1,6 +1,6 @@
--- Rows of two words: row l has bit x for a literal x from which Π derives l. And what is done to each row of a word of
+-- Rows of two words: row l has bit x for a literal x from which Π derives l. And what is done to each row of a set of
 -- literals.
-use Rattle.std.specs.Prelude.{◌≡◌, Bool, true, ◌&&◌, ◌||◌, List, ◌⊎◌, ℕ, ◌+◌, ◌*◌, ◌/◌, ◌%◌, ◌^◌, ◌<◌, length, get_or}
+use Rattle.std.specs.Prelude.{◌≡◌, Bool, true, false, ◌&&◌, ◌||◌, List, ◌⊎◌, ℕ, ◌+◌, ◌*◌, ◌/◌, ◌%◌, ◌^◌, ◌<◌, length, get_or}
 use Rattle.literals.specs.Sets.{has, insert, union}
 use Rattle.literals.specs.Inside.Words.{joined}
 use Rattle.program.specs.Program.{Rule, Π}
@@ -39,11 +39,11 @@ low c l = get_or c (2 * l) 0
 abbrev pub high : List ℕ → ℕ → ℕ
 high c l = get_or c (2 * l + 1) 0
 
--- R says what becomes of the row of each literal first + b, b a member of word: of its words in e, and then in f. The others stay.
-pub record Each (R : ℕ → ℕ → ℕ → ℕ → ℕ → Type 0) (word first : ℕ) (e f : List ℕ) : Type 0 where
+-- R says what becomes of the row of each literal of s: of its words in e, and then in f. The others stay.
+pub record Each (R : ℕ → ℕ → ℕ → ℕ → ℕ → Type 0) (s : ℕ) (e f : List ℕ) : Type 0 where
   pub sized : length f ≡ length e
-  pub done : (b : ℕ) → has word b ≡ true → R (first + b) (low e (first + b)) (high e (first + b)) (low f (first + b)) (high f (first + b))
-  pub others : (a : ℕ) → ((b : ℕ) → has word b ≡ true → a ≡ first + b → ⊥) → (low f a ≡ low e a) × (high f a ≡ high e a)
+  pub done : (l : ℕ) → has s l ≡ true → R l (low e l) (high e l) (low f l) (high f l)
+  pub others : (l : ℕ) → has s l ≡ false → (low f l ≡ low e l) × (high f l ≡ high e l)
 
 -- the row has its own literal
 abbrev pub Own : ℕ → ℕ → ℕ → ℕ → ℕ → Type 0

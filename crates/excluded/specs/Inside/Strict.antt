@@ -1,5 +1,5 @@
 -- The strict rules by themselves: without those whose head Π derives, and with what Π derives cut from their bodies.
-use Rattle.std.specs.Prelude.{◌≡◌, Bool, true, not, ◌&&◌, List, ℕ, ◌+◌, ◌*◌, ◌^◌, ◌<◌, ◌≤◌, eqb, length, get_or}
+use Rattle.std.specs.Prelude.{◌≡◌, Bool, true, not, ◌&&◌, List, ℕ, ◌*◌, ◌^◌, ◌<◌, ◌≤◌, eqb, length, get_or}
 use Rattle.std.specs.Int.Count.{ones}
 use Rattle.literals.specs.Sets.{has, minus, within}
 use Rattle.program.specs.Program.{Rule, Π}
@@ -25,8 +25,8 @@ pub record StrictRow (t : List ℕ) (d i : ℕ) (u : List ℕ) (j : ℕ) : Type 
 pub record Taken (t : List ℕ) (d n taken reach : ℕ) (u : List ℕ) : Type 0 where
   pub few : n ≤ ones taken
   pub below : taken < 2 ^ 96
-  pub from : length u ≡ 419 → (j : ℕ) → j < n → (k : ℕ) × StrictRow t d k u j
-  pub all : length u ≡ 419 → (k : ℕ) → has taken k ≡ true → (j : ℕ) × (j < n) × StrictRow t d k u j
+  pub from : (j : ℕ) → j < n → (k : ℕ) × StrictRow t d k u j
+  pub all : (k : ℕ) → has taken k ≡ true → (j : ℕ) × (j < n) × StrictRow t d k u j
   pub heads : (k : ℕ) → has taken k ≡ true → has reach (head_at t k) ≡ true
 
 -- s has the numbers of such rules, of those before n all
@@ -38,11 +38,11 @@ pub record Open (t : List ℕ) (d n s : ℕ) : Type 0 where
 abbrev pub Quiet : List ℕ → ℕ → ℕ → ℕ → Type 0
 Quiet t taken reach i = within (body_at t i) reach ≡ true → has taken i ≡ true
 
--- nothing was taken, and nothing is left to take of the rules of a word, the first of which is rule first
-pub record Still (t : List ℕ) (word first taken reach after far : ℕ) : Type 0 where
+-- nothing was taken, and nothing is left to take of the rules of s
+pub record Still (t : List ℕ) (s taken reach after far : ℕ) : Type 0 where
   pub taken_is : after ≡ taken
   pub reach_is : far ≡ reach
-  pub quiet : (b : ℕ) → has word b ≡ true → Quiet t taken reach (first + b)
+  pub quiet : (i : ℕ) → has s i ≡ true → Quiet t taken reach i
 
 -- the rows of u are those rules of t that can act where w is given
 pub record StrictRules (t : List ℕ) (d w : ℕ) (u : List ℕ) : Type 0 where

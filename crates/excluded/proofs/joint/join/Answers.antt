@@ -1,41 +1,16 @@
+use mathlib.Core.Path.{ap}
 use Rattle.literals.specs.Inside.Words.{set_of}
-use Rattle.literals.proofs.Members.{minus_less}
+use Rattle.literals.specs.declared.LiteralSet.{LiteralSet}
 use Rattle.excluded.specs.Inside.Rows.{Joined}
 use Rattle.excluded.proofs.Eaches.{going_none, going_more, going_all}
-use native.Mathlib.Omega.{arith}
 use Rattle.excluded.proofs.joint.join.Goals as goal
 
-pub loop-left-init : goal.loop-left-init
-loop-left-init c = going_none _ _ _ _
+pub loop-literal-init : goal.loop-literal-init
+loop-literal-init c = going_none _ _ _ _ (ap (λ (s : LiteralSet). set_of s) c.into_iter-literal-iterator.ensures.into_iter_gives) c.told-exclusions
 
-pub lowest-requires : goal.lowest-requires
-lowest-requires c = c.loop-left-test.true
-
-pub overflow_add-a : goal.overflow_add-a
-overflow_add-a c = omega (arith, c.lowest.ensures.small, c.requires.reach_len.1)
-
-pub together-requires : goal.together-requires
-together-requires c = record {
-  laid = c.requires.laid;
-  reach_len = (c.requires.reach_len.0, omega (arith, c.lowest.ensures.small, c.requires.reach_len.1));
-}
-
-pub store-requires : goal.store-requires
-store-requires c = omega (arith, c.lowest.ensures.small, c.requires.reach_len.1)
-
-pub rest-left-requires : goal.rest-left-requires
-rest-left-requires c = c.loop-left-test.true
-
-pub loop-left-smaller : goal.loop-left-smaller
-loop-left-smaller c = rw (c.rest-left.ensures _ c.lowest.ensures) (minus_less c.loop-left.left c.lowest.result c.lowest.ensures.member)
-
-pub loop-left-preserved : goal.loop-left-preserved
+pub loop-literal-preserved : goal.loop-literal-preserved
 unfolding set_of
-loop-left-preserved c = going_more (Joined (set_of c.args.u) c.args.rules.now c.args.reach.now) _ c.args.first _ c.loop-left.left _ c.lowest.result c.requires.reach_len.1 c.lowest.ensures
-    _ (c.rest-left.ensures _ c.lowest.ensures) _ _ _ c.store.ensures c.together.ensures c.loop-left.invariant
+loop-literal-preserved c = going_more (Joined (set_of c.args.u) c.args.rules.now c.args.reach.now) _ _ (set_of c.loop-literal.literal-iterator.left) _ c.in-Some.literal _ c.in-Some.ensures.steps _ _ _ c.store.ensures c.together.ensures c.loop-literal.invariant
 
 pub returns : goal.returns
-returns c = record {
-  exclusions_len_unchanged = c.loop-left.invariant.sized;
-  each = going_all _ _ _ _ c.loop-left.left _ c.loop-left-test.false c.loop-left.invariant;
-}
+returns c = going_all _ _ _ _ _ c.in-None.ensures.steps.0 c.loop-literal.invariant

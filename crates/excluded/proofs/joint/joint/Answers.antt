@@ -6,14 +6,8 @@ use Rattle.excluded.proofs.joint.joint.Goals as goal
 pub loop-i-init : goal.loop-i-init
 loop-i-init c = spread_none c.args.rules.now c.args.reach.now _
 
-pub spread-requires : goal.spread-requires
-spread-requires c = record {
-  shaped = c.requires.shaped;
-  i_bound = (omega (arith, c.rule_count-count.ensures), c.requires.reach_len);
-}
-
 pub loop-i-preserved : goal.loop-i-preserved
 loop-i-preserved c = spread_more c.args.rules.now c.args.reach.now c.loop-i.i (set_of c.loop-i.found) (set_of c.spread.result) _ c.union-found.ensures c.loop-i.invariant c.spread.ensures
 
 pub returns : goal.returns
-returns c = spread_all c.args.rules.now c.args.reach.now c.loop-i.i (set_of c.loop-i.found) (omega (arith, c.rule_count-count.ensures)) c.loop-i.invariant
+returns c = spread_all c.args.rules.now c.args.reach.now c.loop-i.i (set_of c.loop-i.found) (omega (arith, c.rule_count-i-end.ensures)) c.loop-i.invariant

@@ -1,18 +1,16 @@
-use Rattle.excluded.proofs.Crossings.{pairs_none, pairs_more, pairs_all}
+use mathlib.Core.Path.{◌≡◌, subst}
+use Prim.Native.Nat.{ℕ}
+use Rattle.literals.specs.Inside.Words.{set_of}
+use Rattle.excluded.specs.Inside.Joint.{Pairs}
+use Rattle.excluded.proofs.Crossings.{pairs_none, pairs_more}
 use native.Mathlib.Omega.{arith}
 use Rattle.excluded.proofs.joint.pairs.Goals as goal
 
 pub loop-atom-init : goal.loop-atom-init
-loop-atom-init c = (omega arith, pairs_none _ _ c.empty-found.ensures)
-
-pub row-positive-requires : goal.row-positive-requires
-row-positive-requires c = (c.requires, omega arith)
-
-pub row-requires : goal.row-requires
-row-requires c = (c.requires, omega arith)
+loop-atom-init c = pairs_none _ _ c.empty-found.ensures
 
 pub loop-atom-preserved : goal.loop-atom-preserved
-loop-atom-preserved c = (omega arith, pairs_more _ c.loop-atom.atom _ _ c.row-positive.ensures c.row.ensures _ _ _ _ c.minus.ensures c.minus-in-loop-atom.ensures c.union-found.ensures c.loop-atom.invariant.1)
+loop-atom-preserved c = pairs_more _ c.loop-atom.atom _ _ c.entry-positive.ensures.bits c.entry.ensures.bits _ _ _ _ c.minus.ensures c.minus-in-loop-atom.ensures c.union-found.ensures c.loop-atom.invariant
 
 pub returns : goal.returns
-returns c = pairs_all _ c.loop-atom.atom _ (omega arith) c.loop-atom.invariant.1
+returns c = subst (λ (n : ℕ). Pairs c.args.rows.now n (set_of c.loop-atom.found)) (let e : c.loop-atom.atom ≡ 64 = omega arith in e) c.loop-atom.invariant

@@ -1,39 +1,19 @@
 use mathlib.Core.Path.{ap, ◌∙◌}
-use Prim.Native.Nat.{ℕ, ◌+◌}
+use Prim.Native.Nat.{ℕ}
 use Rattle.literals.specs.Sets.{insert}
 use Rattle.literals.specs.Inside.Words.{set_of}
-use Rattle.literals.proofs.Members.{minus_less}
+use Rattle.literals.specs.declared.LiteralSet.{LiteralSet}
 use Rattle.excluded.specs.Inside.Rows.{Own}
 use Rattle.excluded.proofs.Eaches.{going_none, going_more, going_all}
 use borrow.Author.Rules.{rules}
-use native.Mathlib.Omega.{arith}
 use Rattle.excluded.proofs.reach.own.Goals as goal
 
-pub loop-left-init : goal.loop-left-init
-loop-left-init c = going_none _ _ _ _
+pub loop-x-init : goal.loop-x-init
+loop-x-init c = going_none _ _ _ _ (ap (λ (s : LiteralSet). set_of s) c.into_iter-x-iterator.ensures.into_iter_gives) c.told-rows
 
-pub lowest-requires : goal.lowest-requires
-lowest-requires c = c.loop-left-test.true
-
-pub overflow_add-x : goal.overflow_add-x
-overflow_add-x c = omega (arith, c.lowest.ensures.small)
-
-pub insert-requires : goal.insert-requires
-insert-requires c = omega (arith, c.lowest.ensures.small)
-
-pub store-requires : goal.store-requires
-store-requires c = omega (arith, c.lowest.ensures.small)
-
-pub rest-left-requires : goal.rest-left-requires
-rest-left-requires c = c.loop-left-test.true
-
-pub loop-left-smaller : goal.loop-left-smaller
-loop-left-smaller c = rw (c.rest-left.ensures _ c.lowest.ensures) (minus_less c.loop-left.left c.lowest.result c.lowest.ensures.member)
-
-pub loop-left-preserved : goal.loop-left-preserved
+pub loop-x-preserved : goal.loop-x-preserved
 unfolding set_of
-loop-left-preserved c = going_more Own _ c.args.first _ c.loop-left.left _ c.lowest.result c.requires c.lowest.ensures _ (c.rest-left.ensures _ c.lowest.ensures)
-    _ _ _ c.store.ensures (search rules, c.insert.ensures ∙ ap (λ (z : ℕ). insert z (c.args.first + c.lowest.result)) c.empty.ensures) c.loop-left.invariant
+loop-x-preserved c = going_more Own _ _ (set_of c.loop-x.x-iterator.left) _ c.in-Some.x _ c.in-Some.ensures.steps _ _ _ c.store.ensures (search rules, c.insert.ensures ∙ ap (λ (z : ℕ). insert z c.in-Some.x) c.empty.ensures) c.loop-x.invariant
 
 pub returns : goal.returns
-returns c = going_all _ _ _ _ c.loop-left.left _ c.loop-left-test.false c.loop-left.invariant
+returns c = going_all _ _ _ _ _ c.in-None.ensures.steps.0 c.loop-x.invariant

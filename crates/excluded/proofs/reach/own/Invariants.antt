@@ -1,10 +1,8 @@
 -- `reach::own` meets its contract: what is left, once done, makes the whole.
+use Rattle.literals.specs.Inside.Words.{set_of}
 use Rattle.excluded.specs.Inside.Rows.{Own}
 use Rattle.excluded.proofs.Eaches.{Going}
 use Rattle.excluded.proofs.reach.own.Given as goal
 
-abbrev pub invariant-loop-left : goal.invariant-loop-left
-invariant-loop-left l = Going Own l.word l.first l.initial.rows l.left l.rows
-
-abbrev pub decreases-loop-left : goal.decreases-loop-left
-decreases-loop-left l = l.left
+abbrev pub invariant-loop-x : goal.invariant-loop-x
+invariant-loop-x l = Going Own (set_of l.fn.u) l.initial.rows (set_of l.x-iterator.left) l.rows

@@ -1,11 +1,8 @@
 -- `reach::place` meets its contract: the rows before l have their places.
 use mathlib.Core.Path.{◌≡◌}
-use Prim.Native.Nat.{ℕ, ◌-◌, ◌*◌, ◌<◌}
-use lib.ListN.{length, get_or}
+use Prim.Native.Nat.{ℕ, ◌*◌, ◌<◌}
+use lib.ListN.{get_or}
 use Rattle.excluded.proofs.reach.place.Given as goal
 
 abbrev pub invariant-loop-l : goal.invariant-loop-l
-invariant-loop-l l = (length l.base ≡ 128) × ((k : ℕ) → k < l.l → get_or l.base k 0 ≡ 2 * k)
-
-abbrev pub decreases-loop-l : goal.decreases-loop-l
-decreases-loop-l l = 128 - l.l
+invariant-loop-l l = (k : ℕ) → k < l.l → get_or l.base k 0 ≡ 2 * k

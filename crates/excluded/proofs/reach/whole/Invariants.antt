@@ -4,8 +4,5 @@ use Rattle.excluded.specs.Inside.Rows.{Whole}
 use Rattle.excluded.proofs.Eaches.{Going}
 use Rattle.excluded.proofs.reach.whole.Given as goal
 
-abbrev pub invariant-loop-left : goal.invariant-loop-left
-invariant-loop-left l = Going (Whole (set_of l.u)) l.word l.first l.initial.rows l.left l.rows
-
-abbrev pub decreases-loop-left : goal.decreases-loop-left
-decreases-loop-left l = l.left
+abbrev pub invariant-loop-literal : goal.invariant-loop-literal
+invariant-loop-literal l = Going (Whole (set_of l.u)) (set_of l.fn.s) l.initial.rows (set_of l.literal-iterator.left) l.rows

@@ -1,11 +1,7 @@
 -- `strict::bearing` meets its contract: the rules before i are looked at.
-use Prim.Native.Nat.{◌-◌}
 use Rattle.literals.specs.Inside.Words.{set_of}
 use Rattle.excluded.specs.Inside.Strict.{Open}
 use Rattle.excluded.proofs.strict.bearing.Given as goal
 
 abbrev pub invariant-loop-i : goal.invariant-loop-i
 invariant-loop-i l = Open l.table (set_of l.derived) l.i (set_of l.rules)
-
-abbrev pub decreases-loop-i : goal.decreases-loop-i
-decreases-loop-i l = l.count - l.i

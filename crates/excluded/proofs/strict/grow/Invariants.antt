@@ -2,15 +2,14 @@
 use mathlib.Core.Path.{◌≡◌}
 use mathlib.Core.Bool.{true}
 use Prim.Native.Nat.{◌-◌}
-use lib.ListN.{length}
 use Rattle.literals.specs.Sets.{within}
 use Rattle.literals.specs.Inside.Words.{set_of}
 use Rattle.excluded.specs.Inside.Strict.{Taken}
 use Rattle.excluded.proofs.strict.grow.Given as goal
 
-abbrev pub invariant-loop-derived : goal.invariant-loop-derived
-invariant-loop-derived l = (length l.rules ≡ length l.initial.rules) × (within (set_of l.initial.p.reach) (set_of l.p.reach) ≡ true)
+abbrev pub invariant-loop-p : goal.invariant-loop-p
+invariant-loop-p l = (within (set_of l.initial.p.reach) (set_of l.p.reach) ≡ true)
     × Taken l.table (set_of l.derived) l.p.n (set_of l.p.taken) (set_of l.p.reach) l.rules
 
-abbrev pub decreases-loop-derived : goal.decreases-loop-derived
-decreases-loop-derived l = 96 - l.p.n
+abbrev pub decreases-loop-p : goal.decreases-loop-p
+decreases-loop-p l = 96 - l.p.n

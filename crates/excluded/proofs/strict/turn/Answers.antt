@@ -13,7 +13,7 @@ use Rattle.excluded.proofs.strict.turn.Goals as goal
 
 pub returns-then-has : goal.returns-then-has
 returns-then-has c = record {
-  rules_len_unchanged = (refl, omega arith);
+  n_value = omega arith;
   reach_value = within_refl (set_of c.args.p.reach);
   taken_2 = c.requires.taken;
   taken_value = λ z. (refl, refl, λ w. sym c.has.ensures ∙ c.if-has.true);
@@ -21,7 +21,7 @@ returns-then-has c = record {
 
 pub returns-then-not-within : goal.returns-then-not-within
 returns-then-not-within c = record {
-  rules_len_unchanged = (refl, omega arith);
+  n_value = omega arith;
   reach_value = within_refl (set_of c.args.p.reach);
   taken_2 = c.requires.taken;
   taken_value = λ z. (
@@ -49,10 +49,10 @@ returns c = let ended =
     turn_takes c.args.table.now (set_of c.args.derived) c.args.i c.args.p.n (set_of c.args.p.taken) (set_of c.args.p.reach) c.args.rules.now c.head-head.result c.minus.result
     (omega (arith, c.requires.shaped.few, c.requires.i_bound.0)) c.requires.i_bound.0 c.requires.i_bound.1 (sym c.has.ensures ∙ c.if-has.false)
     c.head-head.ensures (c.minus.ensures ∙ ap (λ (z : ℕ). minus z (set_of c.args.derived)) c.body-body.ensures)
-    (joined_below c.minus.result.hi c.minus.result.lo (search rules) (search rules)) c.requires.taken _ c.store_row.ensures _ c.insert.ensures _ c.insert-2.ensures in
+    (joined_below c.minus.result.hi c.minus.result.lo (search rules) (search rules)) c.told-rules c.requires.taken _ c.store_row.ensures _ c.insert.ensures _ c.insert-2.ensures in
     record {
-      rules_len_unchanged = (ended.0, omega arith);
-      reach_value = ended.1;
-      taken_2 = ended.2;
+      n_value = omega arith;
+      reach_value = ended.0;
+      taken_2 = ended.1;
       taken_value = λ z. absurd (omega arith);
     }
