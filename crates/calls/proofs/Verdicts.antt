@@ -65,6 +65,20 @@ pub judged_same : {A B : Causes} {v : Verdict} → ((n p : ℕ) → A n p → B 
 judged_same f g (accepted h) = accepted (λ n p b. h n p (g n p b))
 judged_same f g (refused {number} {place} c h) = refused (f number place c) (λ m q e b. h m q e (g m q b))
 
+-- ---- what an acceptance says of its parts
+
+pub then_left : (a v : Verdict) → and_then a v ≡ Accepted → a ≡ Accepted
+then_left Accepted v e = refl
+then_left (Refused n p) v e = e
+
+pub then_right : (a v : Verdict) → and_then a v ≡ Accepted → v ≡ Accepted
+then_right Accepted v e = e
+then_right (Refused n p) v e = absurd (let z : ◌≡◌ {A = ℕ} 0 1 = cc in omega arith)
+
+pub refuse_not : (b : Bool) (n p : ℕ) → refuse b n p ≡ Accepted → b ≡ false
+refuse_not true n p e = absurd (let z : ◌≡◌ {A = ℕ} 0 1 = cc in omega arith)
+refuse_not false n p e = refl
+
 -- ---- verdicts that a result tells
 
 pub told_then : (a v : Result Unit Refusal) → told (parts.and_then a v) ≡ and_then (told a) (told v)

@@ -15,7 +15,7 @@ use Rattle.layout.specs.Layout.{rules_of}
 use Rattle.layout.specs.Causes.{verdict}
 use Rattle.calls.specs.Verdicts.{refuse, and_then}
 use Rattle.layout.specs.Reading.{program_in}
-use Rattle.image.proofs.Accepted.{then_left, then_right, refuse_not}
+use Rattle.calls.proofs.Verdicts.{then_left, then_right, refuse_not}
 use Rattle.derivation.specs.Closure.{contradictory}
 use Rattle.calls.specs.Calls.{check_image}
 use Rattle.calls.specs.Causes.{ImageCause, Judged}

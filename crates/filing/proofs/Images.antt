@@ -9,7 +9,7 @@ use Rattle.lists.proofs.Permutations.{fold, fold_perm, same_perm, perm_length, f
 use Rattle.lists.proofs.Sorting.{sort_perm, sorted_distinct}
 use Rattle.program.specs.Program.{Kind, strict, defeasible, Rule, Program, is_defeasible, next_bit, defeasibles, defeasibles_from}
 use Rattle.program.specs.Limits.{DefeasibleAt, PairOf}
-use Rattle.calls.specs.Verdicts.{Accepted}
+use Rattle.layout.specs.Causes as images
 use Rattle.layout.specs.Causes.{part_verdict}
 use Rattle.renaming.specs.Programs.{Renumbered}
 use Rattle.renaming.proofs.Masks.{renumbered_sym, rules_to, defeasible_to}
@@ -76,7 +76,7 @@ module _ (p : Program) (order : List ℕ) (o : Numbering (length p.rules) order)
     few_pairs = let f = w.few_pairs in omega (arith, pairs_count);
     few_defeasible = let f = w.few_defeasible in omega (arith, defeasibles_perm rules_perm);
     rule_fits = λ r i.
-        subst (λ (a : ℕ). part_verdict (rule_bytes r) a 0 0 ≡ Accepted) (sym (ordered_atoms p order))
+        subst (λ (a : ℕ). part_verdict (rule_bytes r) a 0 0 ≡ images.accepted) (sym (ordered_atoms p order))
         (w.rule_fits r (rules_to (renumbered_sym renumbered) r i));
     rules_once = (ordered_wellformed p order o wellformed).rules_once;
     pairs_name = named;

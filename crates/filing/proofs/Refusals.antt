@@ -24,7 +24,7 @@ use Rattle.calls.specs.Verdicts.{Verdict, Accepted}
 use Rattle.layout.specs.Layout.{rules_of}
 use Rattle.calls.specs.Verdicts.{refuse, and_then}
 use Rattle.layout.specs.Reading.{program_in}
-use Rattle.image.proofs.Accepted.{then_left, then_right, refuse_not}
+use Rattle.calls.proofs.Verdicts.{then_left, then_right, refuse_not}
 use Rattle.calls.specs.Calls.{check_image}
 use Rattle.calls.specs.Causes.{ImageCause, Judged}
 use Rattle.calls.proofs.Verdicts.{Causes, Either, Only, Spans, judged_one, judged_then, judged_same, only_spans, either_spans, late_cut, Sited, judged_once}

@@ -11,9 +11,12 @@ use Rattle.lists.specs.Inside.Numbering.{Numbering}
 use Rattle.program.specs.Program.{Program, Π}
 use Rattle.calls.specs.Verdicts.{Verdict, Accepted}
 use Rattle.layout.specs.Causes.{verdict}
-use Rattle.calls.specs.Verdicts.{refuse, and_then}
+use Rattle.layout.specs.Causes as images
+use Rattle.calls.specs.Verdicts.{told, refuse, and_then}
 use Rattle.layout.specs.Reading.{program_in}
-use Rattle.image.proofs.Accepted.{then_left, then_right, accepted_limits}
+use Rattle.image.proofs.Accepted.{accepted_limits}
+use Rattle.calls.proofs.Verdicts.{then_right}
+use Rattle.calls.proofs.Refusals.{check_accepted}
 use Rattle.derivation.specs.Derivation.{HeadsBelow}
 use Rattle.derivation.specs.Closure.{contradictory}
 use Rattle.argument.specs.List.{argument_list}
@@ -38,13 +41,12 @@ use Rattle.filing.proofs.Orders.{ordered_renumbered}
 use Rattle.filing.proofs.Images.{writable_wellformed, ordered_writable, ordered_image_length}
 
 module _ (s : List ℕ) (a : AcceptedImage s) where
-  pub reads : verdict s ≡ Accepted
-  unfolding check_image
-  reads = then_left (verdict s) (refuse (contradictory (Π (program_in s).rules)) 14 0) a
+  pub reads : verdict s ≡ images.accepted
+  reads = (check_accepted s a).0
 
   coherent : refuse (contradictory (Π (program_in s).rules)) 14 0 ≡ Accepted
   unfolding check_image
-  coherent = then_right (verdict s) (refuse (contradictory (Π (program_in s).rules)) 14 0) a
+  coherent = then_right (told (verdict s)) (refuse (contradictory (Π (program_in s).rules)) 14 0) a
 
   pub writable : Writable (program_in s)
   writable = accepted_writable s reads
@@ -68,7 +70,7 @@ module _ (s : List ℕ) (a : AcceptedImage s) where
     pub moved_accepted : AcceptedImage (image_of (ordered (program_in s) order))
     unfolding check_image
     moved_accepted =
-        ap₂ and_then (image_accepted (ordered (program_in s) order) moved_writable)
+        ap₂ and_then (ap told (image_accepted (ordered (program_in s) order) moved_writable))
         (ap (λ (b : Bool). refuse b 14 0)
         (ap (λ (p : Program). contradictory (Π p.rules)) holds ∙ sym (strict_contradictory_to renumbered))
         ∙ coherent)
