@@ -8,6 +8,7 @@ use Prim.Native.Nat.{ℕ, suc, ◌+◌, ◌<◌, ◌≤◌}
 use native.Mathlib.Numerals.{add-one}
 use native.Mathlib.Omega.{arith}
 use lib.ListN.{length, get_or, drop, drop_of_length-le}
+use Rattle.std.specs.List.{list_all}
 use lib.Seq.{drop-cons}
 use lib.Dec.{ltb, leb, eqb}
 use borrow.Author.Tests.{ltb-true, lt-ltb, le-ltb, leb-true, le-leb, lt-leb, eqb-true, eq-eqb}
@@ -21,6 +22,12 @@ use Rattle.layout.specs.Causes.{all_below, ascending, same_bytes}
 -- the bytes from k on, where there is one
 pub drop_at : (p : List ℕ) (k : ℕ) → k < length p → drop k p ≡ get_or p k 0 ∷ drop (k + 1) p
 drop_at p k h = rw (add-one, drop-cons p k 0 h) refl
+
+-- the test as a walk over all
+pub below_all : (n : ℕ) (l : List ℕ) → list_all (λ x. ltb x n) l ≡ all_below n l
+unfolding all_below
+below_all n [] = refl
+below_all n (x ∷ l) = ap (λ (t : Bool). ltb x n && t) (below_all n l)
 
 module _ (n : ℕ) (p : List ℕ) (k : ℕ) where
   pub below_end : length p ≤ k → all_below n (drop k p) ≡ true

@@ -1,138 +1,84 @@
 // A rule within its own part: causes 4 to 9.
 #![tactic(auto)]
 
-ghost use Rattle.std.specs.Prelude.{◌≡◌, ◌≤◌, ◌<◌, drop};
+ghost use Rattle.std.specs.Prelude.{◌≡◌, ◌≤◌};
 ghost use Rattle.layout.specs.Causes.{all_below};
 ghost use Rattle.part.specs.Inside.Steps.{BodyRead, PartRead};
 
-use layout::Verdict;
-use layout::cursor::{Byte, Cursor, Pair};
+use layout::cursor::Cursor;
+use layout::{Cause, Refusal};
 use literals::LiteralSet;
 
-// A rule, or the first of causes 4 to 9 that applies to it.
-#[derive(Clone, Copy)]
-pub enum Part {
-    Rule {
-        defeasible: bool,
-        head: u64,
-        body: LiteralSet,
-    },
-    Refused {
-        number: u32,
-        place: u32,
-    },
+// A rule, its body as a set.
+#[derive(Clone, Copy, PartialEq, Eq, Debug)]
+pub struct Rule {
+    pub defeasible: bool,
+    pub head: u64,
+    pub body: LiteralSet,
 }
 
-// A body as a set, or the first of causes 6 and 7 that applies to it.
-#[derive(Clone, Copy)]
-pub enum Body {
-    Read(LiteralSet),
-    Refused(u32),
-}
-
-// A byte as a word.
-pub fn wide(byte: u8) -> u64
-    ensures { (result ≡ byte) × (result < 256) }
+// Each literal is below the limit.
+fn below(literals: &[u8], limit: u64) -> bool
+    ensures { result ≡ all_below limit literals.now }
 {
-    byte as u64
+    literals.iter().all(|literal| u64::from(*literal) < limit)
 }
 
-// Each literal from here to the end of the part is below the limit.
-fn below(part: &[u8], start: Cursor, limit: u64) -> bool
-    ensures { result ≡ all_below limit (drop start.at part.now) }
-{
-    let mut cursor = start;
-    loop {
-        let Byte::Read { value, next } = cursor.byte(part) else {
-            return true;
-        };
-        if limit <= wide(value) {
-            return false;
-        }
-        cursor = next;
-    }
-}
-
-// The body from here to the end of the part. Cause 6 comes before cause 7, so after a literal out of order the rest is looked
-// at for its limit.
-fn body_set(part: &[u8], start: Cursor, limit: u64) -> Body
+// A body as a set, or the first of causes 6 and 7 that applies to it. Cause 6 comes before cause 7, so after a literal out of
+// order the rest is looked at for its limit.
+fn body_set(literals: &[u8], limit: u64, place: u32) -> Result<LiteralSet, Refusal>
     requires { limit ≤ 128 }
-    ensures { BodyRead result limit (drop start.at part.now) }
+    ensures { BodyRead result literals.now limit place }
 {
-    let mut cursor = start;
     let mut set = LiteralSet::empty();
-    let mut least: u64 = 0;
-    loop {
-        let Byte::Read { value, next } = cursor.byte(part) else {
-            return Body::Read(set);
-        };
-        let literal = wide(value);
+    let mut least = 0;
+    for (i, byte) in literals.iter().enumerate() {
+        let literal = u64::from(*byte);
         if limit <= literal {
-            return Body::Refused(Verdict::LITERAL_RANGE);
+            return Err(Cause::LiteralRange.at(place));
         }
         if literal < least {
-            if below(part, next, limit) {
-                return Body::Refused(Verdict::BODY_ORDER);
+            if below(&literals[i + 1..], limit) {
+                return Err(Cause::BodyOrder.at(place));
             }
-            return Body::Refused(Verdict::LITERAL_RANGE);
+            return Err(Cause::LiteralRange.at(place));
         }
         set = set.insert(literal);
         least = literal + 1;
-        cursor = next;
     }
+    Ok(set)
 }
 
-// A cause at this rule.
-fn refused(number: u32, place: u32) -> Part
-    ensures { result ≡ Part.Refused number place }
-{
-    Part::Refused { number, place }
-}
-
-// The rule of a part, where `bits` of the earlier rules are defeasible. A part that ends before the head is too short.
-pub fn read(part: &[u8], atoms: u64, bits: u64, place: u32) -> Part
+// The rule of a part, where `bits` of the earlier rules are defeasible, or the first of causes 4 to 9 that applies to it. A part
+// that ends before the head is too short.
+pub fn read(part: &[u8], atoms: u64, bits: u64, place: u32) -> Result<Rule, Refusal>
     requires { atoms ≤ 64 }
     ensures { PartRead result part.now atoms bits place }
 {
     if 10 < part.len() {
-        return refused(Verdict::RULE_LENGTH, place);
+        return Err(Cause::RuleLength.at(place));
     }
-    let Pair::Read {
-        first: kind,
-        second,
-        next,
-    } = Cursor::start().pair(part)
-    else {
-        return refused(Verdict::RULE_LENGTH, place);
+    let Some((kind, second, _)) = Cursor::start().pair(part) else {
+        return Err(Cause::RuleLength.at(place));
     };
     if 1 < kind {
-        return refused(Verdict::RULE_KIND, place);
+        return Err(Cause::RuleKind.at(place));
     }
-    let head = wide(second);
+    let head = u64::from(second);
     if 2 * atoms <= head {
-        return refused(Verdict::LITERAL_RANGE, place);
+        return Err(Cause::LiteralRange.at(place));
     }
-    match body_set(part, next, 2 * atoms) {
-        Body::Refused(number) => refused(number, place),
-        Body::Read(body) => {
-            if kind == 0 {
-                return Part::Rule {
-                    defeasible: false,
-                    head,
-                    body,
-                };
-            }
-            if part.len() == 2 {
-                return refused(Verdict::DEFEASIBLE_WITHOUT_BODY, place);
-            }
-            if 16 <= bits {
-                return refused(Verdict::TOO_MANY_DEFEASIBLE, place);
-            }
-            Part::Rule {
-                defeasible: true,
-                head,
-                body,
-            }
-        }
+    let body = body_set(&part[2..], 2 * atoms, place)?;
+    let defeasible = kind == 1;
+    if defeasible && part.len() == 2 {
+        return Err(Cause::DefeasibleWithoutBody.at(place));
     }
+    if defeasible && 16 <= bits {
+        return Err(Cause::TooManyDefeasible.at(place));
+    }
+    Ok(Rule {
+        defeasible,
+        head,
+        body,
+    })
 }

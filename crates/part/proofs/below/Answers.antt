@@ -1,27 +1,12 @@
-use mathlib.Core.Path.{refl, sym, ap, ◌∙◌}
-use Prim.Native.Nat.{ℕ}
-use lib.ListN.{drop}
-use Rattle.layout.specs.Causes.{all_below}
-use Rattle.layout.proofs.Cursors.{byte_ended, byte_is}
-use Rattle.part.proofs.Bytes.{below_end, below_step, below_stop}
-use native.Mathlib.Omega.{arith}
+-- `below` meets its contract: the test of each literal is that of `all_below`.
+use mathlib.Core.Path.{◌∙◌}
+use lib.Dec.{ltb}
+use borrow.Author.Rules.{rules}
+use borrow.Author.Tests.{tests}
+use Rattle.std.proofs.lemmas.Iterator.{YieldsList-from_slice}
+use Rattle.std.proofs.lemmas.Iterator.Search.{all_from_yields_List}
+use Rattle.part.proofs.Bytes.{below_all}
 use Rattle.part.proofs.below.Goals as goal
 
-pub loop-value-init : goal.loop-value-init
-loop-value-init c = refl
-
-pub returns-in_default : goal.returns-in_default
-returns-in_default c = sym (c.loop-value.invariant ∙ below_end c.args.limit c.args.part.now c.loop-value.cursor.at (byte_ended _ _ (sym c.byte.ensures ∙ c.in_default.is)))
-
-pub returns-then-limit-wide : goal.returns-then-limit-wide
-returns-then-limit-wide c = let b = byte_is c.args.part.now c.loop-value.cursor.at _ _ (sym c.byte.ensures ∙ c.in-Read.is) in
-    sym (c.loop-value.invariant ∙ below_stop c.args.limit c.args.part.now c.loop-value.cursor.at b.room (omega (arith, b.value, c.wide.ensures.0, c.if-limit-wide.true)))
-
-pub loop-value-smaller : goal.loop-value-smaller
-loop-value-smaller c = let b = byte_is c.args.part.now c.loop-value.cursor.at _ _ (sym c.byte.ensures ∙ c.in-Read.is) in
-    omega (arith, b.room, b.next)
-
-pub loop-value-preserved : goal.loop-value-preserved
-loop-value-preserved c = let b = byte_is c.args.part.now c.loop-value.cursor.at _ _ (sym c.byte.ensures ∙ c.in-Read.is) in
-    c.loop-value.invariant ∙ below_step c.args.limit c.args.part.now c.loop-value.cursor.at b.room (omega (arith, b.value, c.wide.ensures.0, c.if-limit-wide.false))
-    ∙ ap (λ (n : ℕ). all_below c.args.limit (drop n c.args.part.now)) (sym b.next)
+pub returns : goal.returns
+returns c = all_from_yields_List (λ x. ltb x c.args.limit) _ _ _ c.all.ensures.ran (YieldsList-from_slice c.args.literals.now cc) (λ x b q k. search (rules, tests)) ∙ below_all c.args.limit c.args.literals.now
