@@ -26,10 +26,7 @@ pub fn fill(table: &RuleTable, keep: &[u64], base: &[u64], rows: &mut [u64])
     ensures rows_len_unchanged { length rows.new ≡ length rows.old }
     ensures rows { Rows table.now keep.now base.now rows.old rows.new }
 {
-    let mut late = true;
-    while late {
-        late = round(table, keep, base, rows);
-    }
+    while round(table, keep, base, rows) {}
 }
 
 // Nothing is derived yet.
