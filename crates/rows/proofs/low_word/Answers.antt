@@ -3,30 +3,30 @@ use Rattle.rows.proofs.Patterns.{chooses_place, ones_place, twos_place, fours_pl
 use native.Mathlib.Omega.{arith}
 use Rattle.rows.proofs.low_word.Goals as goal
 
-pub returns-then-need-eq1 : goal.returns-then-need-eq1
-returns-then-need-eq1 c = chooses_place 0 _ _ (omega arith) ones_place c.if-need-eq1.true
+pub returns-in-1 : goal.returns-in-1
+returns-in-1 c = chooses_place 0 _ _ (omega arith) ones_place c.in-1.is
 
-pub returns-then-need-eq2 : goal.returns-then-need-eq2
-returns-then-need-eq2 c = chooses_place 1 _ _ (omega arith) twos_place c.if-need-eq2.true
+pub returns-in-2 : goal.returns-in-2
+returns-in-2 c = chooses_place 1 _ _ (omega arith) twos_place c.in-2.is
 
-pub returns-then-need-eq4 : goal.returns-then-need-eq4
-returns-then-need-eq4 c = chooses_place 2 _ _ (omega arith) fours_place c.if-need-eq4.true
+pub returns-in-4 : goal.returns-in-4
+returns-in-4 c = chooses_place 2 _ _ (omega arith) fours_place c.in-4.is
 
-pub returns-then-need-eq8 : goal.returns-then-need-eq8
-returns-then-need-eq8 c = chooses_place 3 _ _ (omega arith) eights_place c.if-need-eq8.true
+pub returns-in-8 : goal.returns-in-8
+returns-in-8 c = chooses_place 3 _ _ (omega arith) eights_place c.in-8.is
 
-pub returns-then-need-eq16 : goal.returns-then-need-eq16
-returns-then-need-eq16 c = chooses_place 4 _ _ (omega arith) sixteens_place c.if-need-eq16.true
+pub returns-in-16 : goal.returns-in-16
+returns-in-16 c = chooses_place 4 _ _ (omega arith) sixteens_place c.in-16.is
 
-pub returns-then-need-eq32 : goal.returns-then-need-eq32
-returns-then-need-eq32 c = chooses_place 5 _ _ (omega arith) thirtytwos_place c.if-need-eq32.true
+pub returns-in-32 : goal.returns-in-32
+returns-in-32 c = chooses_place 5 _ _ (omega arith) thirtytwos_place c.in-32.is
 
-pub returns : goal.returns
-returns c = chooses_all _ (record {
-  one = c.if-need-eq1.false;
-  two = c.if-need-eq2.false;
-  four = c.if-need-eq4.false;
-  eight = c.if-need-eq8.false;
-  sixteen = c.if-need-eq16.false;
-  thirtytwo = c.if-need-eq32.false;
+pub returns-in_default : goal.returns-in_default
+returns-in_default c = chooses_all _ (record {
+  one = omega arith;
+  two = omega arith;
+  four = omega arith;
+  eight = omega arith;
+  sixteen = omega arith;
+  thirtytwo = omega arith;
 })
