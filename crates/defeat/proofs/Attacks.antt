@@ -1,6 +1,6 @@
 -- Which sub-arguments a listed argument attacks, as the table of rows and the exclusion table tell it, and the kind that
 -- follows.
-use mathlib.Core.Path.{◌≡◌, sym, ap, ap₂, ◌∙◌, subst}
+use mathlib.Core.Path.{◌≡◌, sym, ap, ◌∙◌, subst}
 use mathlib.Core.Bool.{Bool, true, false, ◌&&◌, false≢true}
 use mathlib.Core.List.{List, ◌∷◌, Memᴰ}
 use mathlib.Core.Logic.{⊎_elim}
@@ -9,9 +9,9 @@ use native.Mathlib.Numerals.{add-one}
 use native.Mathlib.Decide.{dec_lt}
 use native.Mathlib.Omega.{arith}
 use lib.Dec.{T, lit<}
-use lib.ListN.{length, get_or, take, drop}
-use lib.Seq.{drop-cons, length-take-le, get_or-take}
-use Rattle.lists.specs.Lists.{any}
+use lib.ListN.{length, get_or, drop}
+use lib.Seq.{drop-cons}
+use Rattle.lists.specs.Lists.{any, Ascending}
 use Rattle.lists.proofs.Lists.{T_true, any_intro, any_found}
 use Rattle.lists.proofs.Orders.{ascending_rest}
 use Rattle.lists.proofs.Places.{there}
@@ -208,30 +208,21 @@ module _ {p : Program} {u : ℕ} {table rows exclusions arguments : List ℕ} {c
 -- ---- the list from an index on
 
 -- the entry at i of a table that begins with the list
-module _ (rules : List Rule) (arguments : List ℕ) (count i : ℕ) (listed : take count arguments ≡ argument_list rules)
-    (enough : count ≤ length arguments) (inside : i < count) where
-  as_long : length (argument_list rules) ≡ count
-  as_long = ap length (sym listed) ∙ length-take-le count arguments enough
+module _ (rules : List Rule) (l : List ℕ) (i : ℕ) (listed : l ≡ argument_list rules) (inside : i < length l) where
+  pub entry_listed : Memᴰ (get_or l i 0) (argument_list rules)
+  entry_listed = subst (λ (k : List ℕ). Memᴰ (get_or l i 0) k) listed (there 0 l i inside)
 
-  entry_is : get_or (argument_list rules) i 0 ≡ get_or arguments i 0
-  entry_is = ap (λ (l : List ℕ). get_or l i 0) (sym listed) ∙ get_or-take count arguments i 0 inside
-
-  pub entry_listed : Memᴰ (get_or arguments i 0) (argument_list rules)
-  entry_listed =
-      subst (λ (z : ℕ). Memᴰ z (argument_list rules)) entry_is
-      (there 0 (argument_list rules) i (omega (arith, as_long)))
-
-  pub entry_first : drop i (argument_list rules) ≡ get_or arguments i 0 ∷ drop (i + 1) (argument_list rules)
+  pub entry_first : drop i (argument_list rules) ≡ get_or l i 0 ∷ drop (i + 1) (argument_list rules)
   entry_first =
-      drop-cons (argument_list rules) i 0 (omega (arith, as_long))
-      ∙ ap₂ (λ (z : ℕ) (k : ℕ). z ∷ drop k (argument_list rules)) entry_is (sym (add-one i))
+      subst (λ (k : List ℕ). drop i k ≡ get_or l i 0 ∷ drop (i + 1) k) listed
+      (drop-cons l i 0 inside ∙ ap (λ (k : ℕ). get_or l i 0 ∷ drop k l) (sym (add-one i)))
 
   -- past the masks up to m none is within m
-  pub entry_past : (s m : ℕ) → m < mask_of (get_or arguments i 0) → (z : ℕ) → Memᴰ z (drop i (argument_list rules))
+  pub entry_past : (s m : ℕ) → m < mask_of (get_or l i 0) → (z : ℕ) → Memᴰ z (drop i (argument_list rules))
       → attacked_by s m z ≡ false
   entry_past s m h z j = not_true_false (attacked_by s m z) (λ q.
-      let there : i < length (argument_list rules) = omega (arith, as_long) in
-      let low = ascending_rest (argument_list rules) i z (list_ascending rules) there j in
+      let low =
+      ascending_rest l i z (subst Ascending (sym listed) (list_ascending rules)) inside
+      (subst (λ (k : List ℕ). Memᴰ z (drop i k)) (sym listed) j) in
       let part = within_le (mask_of z) m (and_left (within (mask_of z) m) (has s (literal_of z)) q) in
-      let e = entry_is in
       omega arith)

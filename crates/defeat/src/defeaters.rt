@@ -1,5 +1,5 @@
 // Whether one argument attacks another, and its kind as a defeater, by the table of rows and the exclusion table.
-ghost use Rattle.std.specs.Prelude.{◌≡◌, ℕ, ◌^◌, ◌<◌, ◌≤◌, take};
+ghost use Rattle.std.specs.Prelude.{◌≡◌, ℕ, ◌^◌, ◌<◌, take};
 ghost use mathlib.Core.List.{List, Memᴰ};
 ghost use Rattle.literals.specs.Inside.Words.{set_of};
 ghost use Rattle.program.specs.Program.{Program};
@@ -12,7 +12,7 @@ ghost use Rattle.defeat.specs.Tests.{kind as «kind_by»};
 ghost use Rattle.defeat.specs.OfProgram.{tests_of};
 ghost use Rattle.preference.specs.Preference.{preferred_test};
 ghost use Rattle.defeat.specs.Inside.Exclusions.{Numbers, Ready};
-ghost use Rattle.defeat.specs.Inside.Steps.{SomeDerived, AttacksBy, attacked_by, kind_among};
+ghost use Rattle.defeat.specs.Inside.Steps.{AttacksBy, attacked_by, kind_among};
 
 use argument::numbers;
 use literals::{LiteralSet, masks};
@@ -23,25 +23,11 @@ pub fn attacks(rows: &[u64], exclusions: &[u64; 256], x: u32, y: u32) -> bool
     requires { Laid rows.now }
     ensures { AttacksBy exclusions.now rows.now x y result }
 {
-    let excluded = excluded::entry(exclusions, numbers::literal_of(x));
     let mask = numbers::mask_of(y);
-    if some_derived(rows, excluded.lo, 0, mask) {
-        return true;
-    }
-    some_derived(rows, excluded.hi, 64, mask)
-}
-
-// The mask derives a literal of a word, the first of which is literal `first`.
-fn some_derived(rows: &[u64], word: u64, first: u64, mask: u64) -> bool
-    requires { (Laid rows.now) × (first ≤ 64) }
-    ensures { SomeDerived rows.now word first mask result }
-{
-    let mut left = word;
-    while left != 0 {
-        if closures::derives(rows, first + masks::lowest(left), mask) {
+    for literal in excluded::entry(exclusions, numbers::literal_of(x)) {
+        if closures::derives(rows, literal, mask) {
             return true;
         }
-        left = masks::rest(left);
     }
     false
 }
@@ -95,24 +81,20 @@ fn weigh(
         (λ z. preferred_test p (mask_of z) x) (argument_list p.rules) }
 {
     let mut found: u8 = 0;
-    let mut i: usize = 0;
-    while i < count {
-        let z = arguments[i];
-        let mask = numbers::mask_of(z);
+    for z in &arguments[..count] {
+        let mask = numbers::mask_of(*z);
         if y < mask {
             return found;
         }
-        i += 1;
-        if !attacked(excluded, y, z) {
+        if !attacked(excluded, y, *z) {
             continue;
         }
         if preference::preferred(table, x, mask) {
             return 1;
         }
-        if preference::preferred(table, mask, x) {
-            continue;
+        if !preference::preferred(table, mask, x) {
+            found = 2;
         }
-        found = 2;
     }
     found
 }

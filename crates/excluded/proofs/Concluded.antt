@@ -1,13 +1,12 @@
 -- The literals of a list of arguments, one after the other.
 use mathlib.Core.Path.{◌≡◌, sym, subst}
 use mathlib.Core.Bool.{true}
-use mathlib.Core.List.Memᴰ
-use mathlib.Core.List.{List, [], ◌∷◌, Memᴰ}
-use mathlib.Core.Logic.{⊎_elim}
-use Prim.Native.Nat.{ℕ, suc, ◌+◌, ◌<◌, ◌≤◌}
+use mathlib.Core.List.{List}
+use Prim.Native.Nat.{ℕ, ◌+◌, ◌<◌, ◌≤◌}
 use native.Mathlib.Omega.{arith}
 use lib.ListN.{length, get_or}
 use borrow.Author.Count.{below_more}
+use Rattle.lists.proofs.Places.{found}
 use Rattle.literals.specs.Sets.{has, insert}
 use Rattle.literals.proofs.Members.{has_insert_same, insert_keeps}
 use Rattle.argument.specs.Argument.{literal_of}
@@ -26,17 +25,8 @@ module _ (l : List ℕ) (u n : ℕ) (w : Looked l u n) where
       (below_more _ n (λ k i j. insert_keeps u (literal_of (get_or l n 0)) (literal_of (get_or l k 0)) (w k i j))
       (λ j. has_insert_same u (literal_of (get_or l n 0))))
 
--- where a member stands
-stands : (l : List ℕ) (x : ℕ) → Memᴰ x l → (k : ℕ) × (k < length l) × (get_or l k 0 ≡ x)
-stands [] x i = absurd (Memᴰ.not-nil i)
-stands (y ∷ l) x i =
-    ⊎_elim (λ e. (0, omega arith, sym e)) (λ j. later (stands l x j)) (Memᴰ.cases_cons i)
-  where
-    later : (k : ℕ) × (k < length l) × (get_or l k 0 ≡ x) → (k : ℕ) × (k < length (y ∷ l)) × (get_or (y ∷ l) k 0 ≡ x)
-    later (k, h, e) = (suc k, omega arith, e)
-
 pub looked_all : (l : List ℕ) (u n : ℕ) → length l ≤ n → Looked l u n → Conclusions u l
-looked_all l u n q w x i h = go (stands l x i)
+looked_all l u n q w x i h = go (found 0 l x i)
   where
     go : (k : ℕ) × (k < length l) × (get_or l k 0 ≡ x) → has u (literal_of x) ≡ true
     go (k, j, e) =

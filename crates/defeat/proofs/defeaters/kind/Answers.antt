@@ -12,7 +12,7 @@ returns-then-x-lt128 c p u rows ready lx ly = sym (kind_strict ready _ _ lx ly (
 
 pub returns : goal.returns
 returns c p u rows ready lx ly = let a = c.args in
-    let row = c.entry-row.ensures ∙ ap (excluded_by a.exclusions.now) c.literal_of.ensures.0 in
+    let row = c.entry-row.ensures.row ∙ ap (excluded_by a.exclusions.now) c.literal_of.ensures.0 in
     let x-mask = c.mask_of.ensures in
     let below : Mask p c.mask_of.result = rw x-mask (listed_mask_lem p ready.limits a.x lx) in
     let same = c.weigh.ensures p ready.limits ready.holds below ready.listed in

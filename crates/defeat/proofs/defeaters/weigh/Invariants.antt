@@ -3,10 +3,9 @@
 use mathlib.Core.Path.{◌≡◌, sym, ap, ◌∙◌}
 use mathlib.Core.Bool.{Bool, true, false}
 use mathlib.Core.List.{List, ◌∷◌}
-use Prim.Native.Nat.{ℕ, ◌+◌, ◌-◌, ◌<◌, ◌≤◌}
+use Prim.Native.Nat.{ℕ, ◌+◌, ◌<◌, ◌≤◌}
 use native.Mathlib.Omega.{arith}
 use lib.ListN.{length, get_or, take, drop, drop_of_length-le}
-use lib.Seq.{length-take-le}
 use Rattle.literals.specs.Inside.Words.{set_of}
 use Rattle.program.specs.Program.{Program}
 use Rattle.program.specs.Limits.{Limits, Mask}
@@ -20,7 +19,7 @@ use Rattle.defeat.proofs.Attacks.{listed_mask_lem, entry_listed, entry_first, en
 use Rattle.defeat.proofs.defeaters.weigh.Given as goal
 
 -- the tables at hand, the excluded literals s, and the masks x and y
-module _ (table arguments : List ℕ) (count s x y : ℕ) where
+module _ (table l : List ℕ) (s x y : ℕ) where
   abbrev pub attacks : ℕ → Bool
   attacks = attacked_by s y
 
@@ -40,7 +39,7 @@ module _ (table arguments : List ℕ) (count s x y : ℕ) where
 
   -- of every program that the tables are made of
   abbrev pub Each : (Program → Type 0) → Type 0
-  Each P = (p : Program) → Limits p → Holds p table → Mask p x → take count arguments ≡ argument_list p.rules → P p
+  Each P = (p : Program) → Limits p → Holds p table → Mask p x → l ≡ argument_list p.rules → P p
 
   abbrev pub Left : ℕ → ℕ → Type 0
   Left found i = Each (λ p. kind_left attacks (over p) (under p) found (rest p i) ≡ whole p)
@@ -51,29 +50,28 @@ module _ (table arguments : List ℕ) (count s x y : ℕ) where
   pub left_all : Left 0 0
   left_all p limits holds below listed = left_start attacks (over p) (under p) (argument_list p.rules)
 
-  module _ (enough : count ≤ length arguments) (found i : ℕ) (same : Left found i) where
-    pub left_end : count ≤ i → Answers found
+  module _ (found i : ℕ) (same : Left found i) where
+    pub left_end : length l ≤ i → Answers found
     left_end out p limits holds below listed =
-        let long = ap length (sym listed) ∙ length-take-le count arguments enough in
-        let none = drop_of_length-le (argument_list p.rules) {i = i} (omega (arith, long)) in
+        let none = drop_of_length-le (argument_list p.rules) {i = i} (omega (arith, ap length listed)) in
         ap (kind_left attacks (over p) (under p) found) (sym none) ∙ same p limits holds below listed
 
     -- a turn at the argument z with the mask m
-    module _ (inside : i < count) (m : ℕ) (is : m ≡ mask_of (get_or arguments i 0)) where
+    module _ (inside : i < length l) (m : ℕ) (is : m ≡ mask_of (get_or l i 0)) where
       abbrev pub z : ℕ
-      z = get_or arguments i 0
+      z = get_or l i 0
 
       pub turn_past : y < m → Answers found
       turn_past h p limits holds below listed =
           sym (left_none attacks (over p) (under p) found (rest p i)
-          (entry_past p.rules arguments count i listed enough inside s y (omega arith)))
+          (entry_past p.rules l i listed inside s y (omega arith)))
           ∙ same p limits holds below listed
 
       -- the list begins with z
       pub first : Each (λ p. kind_left attacks (over p) (under p) found (z ∷ rest p (i + 1)) ≡ whole p)
       first p limits holds below listed =
           ap (kind_left attacks (over p) (under p) found)
-          (sym (entry_first p.rules arguments count i listed enough inside))
+          (sym (entry_first p.rules l i listed inside))
           ∙ same p limits holds below listed
 
       pub turn_skip : attacks z ≡ false → Left found (i + 1)
@@ -85,7 +83,7 @@ module _ (table arguments : List ℕ) (count s x y : ℕ) where
           (eo : (p : Program) → Limits p → Holds p table → Mask p x → Mask p m → o ≡ preferred_test p x m) where
         pub its_mask : Each (λ p. Mask p m)
         its_mask p limits holds below listed =
-            rw is (listed_mask_lem p limits z (entry_listed p.rules arguments count i listed enough inside))
+            rw is (listed_mask_lem p limits z (entry_listed p.rules l i listed inside))
 
         pub is_over : {v : Bool} → o ≡ v → Each (λ p. over p z ≡ v)
         is_over e p limits holds below listed =
@@ -117,8 +115,5 @@ module _ (table arguments : List ℕ) (count s x y : ℕ) where
               (is_over e p limits holds below listed) (is_under q p limits holds below listed))
               ∙ first p limits holds below listed
 
-abbrev pub invariant-loop-i : goal.invariant-loop-i
-invariant-loop-i l = Left l.table l.arguments l.count (set_of l.excluded) l.x l.y l.found l.i
-
-abbrev pub decreases-loop-i : goal.decreases-loop-i
-decreases-loop-i l = l.count - l.i
+abbrev pub invariant-loop-z : goal.invariant-loop-z
+invariant-loop-z l = Left l.table (take l.fn.count l.arguments) (set_of l.excluded) l.x l.y l.found l.z-index
