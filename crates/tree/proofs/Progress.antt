@@ -28,7 +28,7 @@ module _ {all left : List Entry} {start limit next : ℕ} {before t : Columns} (
   pub progress_end : left ≡ [] → Fits all start limit next before t
   progress_end e = record {
     next_is = omega (arith, p.count, ap length e);
-    within = p.high;
+    within = omega (arith, p.high);
     tables_are = ap (λ (l : List Entry). written next l t) (sym e) ∙ p.go;
   }
 

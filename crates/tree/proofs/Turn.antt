@@ -1,5 +1,5 @@
 -- A step on its way: the replies up to a candidate are written. One record of what holds then serves both sides.
-use mathlib.Core.Path.{◌≡◌, sym, ap, ◌∙◌}
+use mathlib.Core.Path.{◌≡◌, refl, sym, ap, ◌∙◌}
 use mathlib.Core.List.{List, ◌∷◌}
 use mathlib.Core.Logic.{◌≢◌}
 use Prim.Native.Nat.{ℕ, suc, ◌+◌, ◌-◌, ◌≤◌, ◌<◌}
@@ -93,6 +93,9 @@ module _ {f : Framework} {line₀ : List ℕ} {s : Step} {limit : ℕ} {t₀ : C
   -- the line up to the parent stays
   turn_line : (line' : List ℕ) → line_of line' (s.depth + 1) ≡ line_of line (s.depth + 1) → line_of line' s.depth ≡ line_of line₀ s.depth
   turn_line line' e = line_less line' line₀ s.depth (argument_of f s) (e ∙ T.line_is)
+
+  pub turn_kept : line_of line s.depth ≡ line_of line₀ s.depth
+  turn_kept = turn_line line refl
 
   pub turn_asked : Asked f line (s.depth + 1) s.other s.kind
   turn_asked =
