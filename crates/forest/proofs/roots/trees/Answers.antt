@@ -10,17 +10,17 @@ loop-index-init c = root_turn_start c.args.literal c.requires (let b = c.require
 
 pub returns-in_err-end : goal.returns-in_err-end
 returns-in_err-end c = rw c.from_residual.ensures
-    (root_turn_over c.loop-index.invariant c.loop-index-test.true (sym c.literal_of.ensures.0 ∙ c.if-literal_of-literal.true) c.in_err-end.ensures.0)
+    (root_turn_over c.loop-index.invariant c.loop-index-test.true (sym c.literal_of.ensures.0 ∙ c.if-literal_of-literal.true) (rw c.in_err-end.was at c.supporter.ensures.0))
 
 pub bounds-columns-next : goal.bounds-columns-next
-bounds-columns-next c = root_turn_mark c.loop-index.invariant c.loop-index-test.true (sym c.literal_of.ensures.0 ∙ c.if-literal_of-literal.true) c.in_ok-end.ensures.0
+bounds-columns-next c = root_turn_mark c.loop-index.invariant c.loop-index-test.true (sym c.literal_of.ensures.0 ∙ c.if-literal_of-literal.true) (rw c.in_ok-end.was at c.supporter.ensures.0)
 
 pub loop-index-preserved : goal.loop-index-preserved
 loop-index-preserved c = elim c.if-literal_of-literal.branch [
   | then-literal_of-literal+in_ok-end w ↦
       rw (w.line-is, w.columns-is, w.undefeated-is, w.next-is)
       (root_turn_step c.loop-index.invariant c.loop-index-test.true (sym c.literal_of.ensures.0 ∙ w.if-literal_of-literal.true)
-      w.in_ok-end.ensures.0 _ _ w.supporter.auto.line refl)
+      (rw w.in_ok-end.was at w.supporter.ensures.0) _ _ w.supporter.auto.line refl)
   | else-literal_of-literal w ↦
       rw (w.line-is, w.columns-is, w.undefeated-is, w.next-is)
       (root_turn_skip c.loop-index.invariant c.loop-index-test.true
