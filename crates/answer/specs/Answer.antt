@@ -10,7 +10,7 @@ use Rattle.defeat.specs.OfProgram.{tests_of}
 pub use Rattle.tree.specs.OfLiteral.{node_count, forest_entries}
 unfoldable pub use Rattle.tree.specs.OfLiteral.{arguments_for, forest, warranted}
 use Rattle.answer.specs.declared.Answer.{Answer}
-use Rattle.answer.specs.declared.Answer.TheVariants.{Yes, No, Undecided, Unknown, Unfinished, Refused}
+use Rattle.answer.specs.declared.Answer.TheVariants.{Yes, No, Undecided, Unknown, Unfinished}
 
 -- "4 UNKNOWN, 0 nodes: the atom stands in no rule.": h's atom is that of some literal of some rule
 pub record Occurs (p : Program) (h : ℕ) : Type 0 where
@@ -45,15 +45,13 @@ tests p = tests_of p (preferred_test p)
 abbrev pub answer : Program → ℕ → ℕ → Answer
 answer p h budget = answer_by p (preferred_test p) h budget
 
--- document 01's number for each answer: "1 YES", "2 NO", "3 UNDECIDED", "4 UNKNOWN", "5 UNFINISHED". A refusal is no
--- answer and has none.
+-- document 01's number for each answer: "1 YES", "2 NO", "3 UNDECIDED", "4 UNKNOWN", "5 UNFINISHED"
 abbrev pub code_of : Answer → ℕ
 code_of (Yes n) = 1
 code_of (No n) = 2
 code_of (Undecided n) = 3
 code_of Unknown = 4
 code_of (Unfinished n) = 5
-code_of (Refused number place) = 0
 
 abbrev pub nodes_of : Answer → ℕ
 nodes_of (Yes n) = n
@@ -61,21 +59,3 @@ nodes_of (No n) = n
 nodes_of (Undecided n) = n
 nodes_of Unknown = 0
 nodes_of (Unfinished n) = n
-nodes_of (Refused number place) = 0
-
--- and of a refusal the number of its cause with the cause's place; an answer has neither
-abbrev pub answered_cause : Answer → ℕ
-answered_cause (Yes n) = 0
-answered_cause (No n) = 0
-answered_cause (Undecided n) = 0
-answered_cause Unknown = 0
-answered_cause (Unfinished n) = 0
-answered_cause (Refused number place) = number
-
-abbrev pub answered_place : Answer → ℕ
-answered_place (Yes n) = 0
-answered_place (No n) = 0
-answered_place (Undecided n) = 0
-answered_place Unknown = 0
-answered_place (Unfinished n) = 0
-answered_place (Refused number place) = place

@@ -2,7 +2,7 @@
 use Rattle.std.specs.Prelude.{List, ◌++◌, map, length, drop, replicate}
 use Rattle.tree.specs.Entries.{Entry}
 use Rattle.answer.specs.declared.Answer.{Answer}
-use Rattle.answer.specs.declared.Answer.TheVariants.{Yes, No, Undecided, Unknown, Unfinished, Refused}
+use Rattle.answer.specs.declared.Answer.TheVariants.{Yes, No, Undecided, Unknown, Unfinished}
 
 -- a table that begins with a list; "Entries past those named keep their contents."
 abbrev pub front : {A : Type 0} → List A → List A → List A
@@ -16,7 +16,6 @@ nodes_after (No n) forest empty table = front forest table
 nodes_after (Undecided n) forest empty table = front forest table
 nodes_after Unknown forest empty table = table
 nodes_after (Unfinished n) forest empty table = front (replicate n empty) table
-nodes_after (Refused number place) forest empty table = table
 
 abbrev pub zeroed : Entry
 zeroed = record { argument = 0; parent = 0; kind = 0; mark = 0 }
