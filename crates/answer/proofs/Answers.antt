@@ -65,7 +65,7 @@ module _ (b n : ℕ) where
   unfinished_by true false false true = (λ e. absurd (omega (arith, e)), λ h. absurd h.1)
   unfinished_by true false false false = (λ e. absurd (omega (arith, e)), λ h. absurd h.1)
 
-  -- none is a refusal
+  -- each answer has a number
   code_by : (o v w m : Bool) → code o v w m ≡ 0 → ⊥
   code_by false v w m e = omega arith
   code_by true true w m e = omega arith

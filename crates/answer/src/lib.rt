@@ -44,15 +44,15 @@ impl Answer {
     }
 }
 
+// The answer's name and its number of nodes.
 impl fmt::Display for Answer {
     fn fmt<W: fmt::Write>(&self, f: &mut fmt::Formatter<W>) -> fmt::Result {
-        let word = match self {
-            Answer::Yes { nodes: _ } => "YES",
-            Answer::No { nodes: _ } => "NO",
-            Answer::Undecided { nodes: _ } => "UNDECIDED",
-            Answer::Unknown => "UNKNOWN",
-            Answer::Unfinished { nodes: _ } => "UNFINISHED",
-        };
-        write!(f, "{word} {}", self.nodes())
+        match *self {
+            Answer::Yes { nodes } => write!(f, "YES {nodes}"),
+            Answer::No { nodes } => write!(f, "NO {nodes}"),
+            Answer::Undecided { nodes } => write!(f, "UNDECIDED {nodes}"),
+            Answer::Unknown => write!(f, "UNKNOWN 0"),
+            Answer::Unfinished { nodes } => write!(f, "UNFINISHED {nodes}"),
+        }
     }
 }

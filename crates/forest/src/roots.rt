@@ -1,13 +1,13 @@
 // The forest of a literal: the trees of the arguments for it, then those for its complement. An argument for either is a
 // root, and a root's step is the supporter's.
-ghost use Rattle.std.specs.Prelude.{◌≡◌, ◌||◌, ◌≤◌, ◌<◌, length, eqb};
+ghost use Rattle.std.specs.Prelude.{◌≡◌, ◌<◌, MatchOption};
 ghost use Rattle.derivation.specs.Derivation.{complement as «complement_of»};
-ghost use Rattle.tree.specs.Inside.Tables.{columns};
 ghost use Rattle.tree.specs.Inside.Steps.{Prepared, tests_in};
-ghost use Rattle.tree.specs.Inside.Roots.{RootsReady, FirstFor, TreesBuilt, ForestBuilt};
+ghost use Rattle.tree.specs.Inside.Roots.{RootsReady, TreesBuilt, ForestBuilt, TreesOver, ForestOver};
 
 use argument::numbers::literal_of;
-use program::RuleTable;
+use tree::candidates::Framework;
+use tree::nodes::{Columns, Step};
 use turns::supporter;
 
 // The next free node number, and whether some root is marked U.
@@ -25,29 +25,6 @@ pub struct Grown {
     pub lost: bool,
 }
 
-// The first argument for the literal from `start` on, or the list's end.
-fn first_for(arguments: &[u32], count: usize, literal: u64, start: usize) -> usize
-    requires { (count ≤ length arguments.now) × (start ≤ count) }
-    ensures { FirstFor literal arguments.now count start result }
-{
-    let mut j = start;
-    while j < count {
-        let h = literal_of(arguments[j]);
-        if h == literal {
-            return j;
-        }
-        j += 1;
-    }
-    count
-}
-
-// One root more.
-fn or_undefeated(found: bool, mark: u8) -> bool
-    ensures { result ≡ (found || eqb mark 1) }
-{
-    if found { true } else { mark == 1 }
-}
-
 // The complement differs in the sign only.
 fn complement(literal: u64) -> u64
     requires { literal < 128 }
@@ -56,109 +33,68 @@ fn complement(literal: u64) -> u64
     2 * (literal / 2) + (1 - literal % 2)
 }
 
-// Writes the trees of the arguments for one literal, from node number `at` on.
+// Writes the trees of the arguments for one literal, from node number `at` on; None where they have more nodes than the
+// limit leaves room for.
 fn trees(
-    table: &RuleTable,
-    rows: &[u64],
-    exclusions: &[u64; 256],
-    arguments: &[u32],
-    count: usize,
+    framework: &Framework<'_>,
     literal: u64,
     line: &mut [u32],
     at: usize,
     limit: usize,
-    indexes: &mut [u32],
-    parents: &mut [u32],
-    kinds: &mut [u8],
-    marks: &mut [u8],
-) -> Rooted
-    requires { RootsReady table.now rows.now exclusions.now arguments.now count line.old at limit
-        (columns indexes.old parents.old kinds.old marks.old) }
-    ensures { (w : Prepared table.now rows.now exclusions.now arguments.now count)
-        → TreesBuilt (tests_in w) literal at limit result.next result.undefeated
-        (columns indexes.old parents.old kinds.old marks.old)
-        (columns indexes.new parents.new kinds.new marks.new) }
+    columns: &mut Columns,
+) -> Option<Rooted>
+    requires { RootsReady framework.now line.old at limit }
+    ensures { (w : Prepared framework.now) → MatchOption result
+        (TreesOver (tests_in w) literal at limit columns.old columns.new)
+        (λ r. TreesBuilt (tests_in w) literal at limit r.next r.undefeated columns.old columns.new) }
 {
     let mut undefeated = false;
     let mut next = at;
-    let mut start = 0;
-    loop {
-        let j = first_for(arguments, count, literal, start);
-        if count <= j {
-            return Rooted {
-                next: next,
-                undefeated: undefeated,
+    for index in 0..framework.arguments.len() {
+        if literal_of(framework.arguments[index]) == literal {
+            let root = Step {
+                index,
+                kind: 0,
+                depth: 0,
+                own: 0,
+                other: 0,
+                parent: next,
+                at: next,
             };
+            let end = supporter(framework, line, root, limit, columns)?;
+            undefeated |= columns.marks[next] == 1;
+            next = end;
         }
-        let end = supporter(
-            table, rows, exclusions, arguments, count, line, 0, 0, 0, j, next, 0, next, limit,
-            indexes, parents, kinds, marks,
-        );
-        if limit < end {
-            return Rooted {
-                next: end,
-                undefeated: false,
-            };
-        }
-        undefeated = or_undefeated(undefeated, marks[next]);
-        next = end;
-        start = j + 1;
     }
+    Some(Rooted { next, undefeated })
 }
 
-// Writes the forest of a literal. `nodes` is its number of nodes, or one past the limit.
+// Writes the forest of a literal; None where it has more nodes than the limit.
 pub fn forest(
-    table: &RuleTable,
-    rows: &[u64],
-    exclusions: &[u64; 256],
-    arguments: &[u32],
-    count: usize,
+    framework: &Framework<'_>,
     literal: u64,
     line: &mut [u32],
     limit: usize,
-    indexes: &mut [u32],
-    parents: &mut [u32],
-    kinds: &mut [u8],
-    marks: &mut [u8],
-) -> Grown
-    requires roots_ready { RootsReady table.now rows.now exclusions.now arguments.now count line.old 0 limit
-        (columns indexes.old parents.old kinds.old marks.old) }
+    columns: &mut Columns,
+) -> Option<Grown>
+    requires roots_ready { RootsReady framework.now line.old 0 limit }
     requires literal_bound { literal < 128 }
-    ensures { (w : Prepared table.now rows.now exclusions.now arguments.now count)
-        → ForestBuilt (tests_in w) literal limit result.nodes result.won result.lost
-        (columns indexes.old parents.old kinds.old marks.old)
-        (columns indexes.new parents.new kinds.new marks.new) }
+    ensures { (w : Prepared framework.now) → MatchOption result
+        (ForestOver (tests_in w) literal limit columns.old columns.new)
+        (λ g. ForestBuilt (tests_in w) literal limit g.nodes g.won g.lost columns.old columns.new) }
 {
-    let first = trees(
-        table, rows, exclusions, arguments, count, literal, line, 0, limit, indexes, parents,
-        kinds, marks,
-    );
-    let next = first.next;
-    if limit < next {
-        return Grown {
-            nodes: next,
-            won: false,
-            lost: false,
-        };
-    }
+    let first = trees(framework, literal, line, 0, limit, columns)?;
     let second = trees(
-        table,
-        rows,
-        exclusions,
-        arguments,
-        count,
+        framework,
         complement(literal),
         line,
-        next,
+        first.next,
         limit,
-        indexes,
-        parents,
-        kinds,
-        marks,
-    );
-    Grown {
+        columns,
+    )?;
+    Some(Grown {
         nodes: second.next,
         won: first.undefeated,
         lost: second.undefeated,
-    }
+    })
 }

@@ -3,7 +3,8 @@ use mathlib.Core.Path.{◌≡◌, refl, sym, ap, ◌∙◌, subst}
 use mathlib.Core.Bool.{Bool, true, false, not, ◌||◌}
 use mathlib.Core.List.{List, ◌∷◌, Memᴰ}
 use Prim.Native.Nat.{ℕ, ◌-◌, ◌^◌, ◌<◌}
-use lib.ListN.{get_or, take}
+use native.Mathlib.Omega.{arith}
+use lib.ListN.{length, get_or}
 use lib.Dec.{eqb}
 use Rattle.lists.specs.Lists.{any}
 use Rattle.literals.specs.Sets.{union, within}
@@ -17,17 +18,18 @@ use Rattle.defeat.specs.Inside.Exclusions.{Numbers}
 use Rattle.defeat.specs.Inside.Steps.{AttacksBy}
 use Rattle.defeat.proofs.Attacks.{kind_apart}
 use Rattle.tree.specs.Reply.{theirs, permit, reply_kind, last_kind}
+use Rattle.tree.specs.declared.candidates.Framework.{Framework}
 use Rattle.tree.specs.Inside.Steps.{line_of, masks_of, Prepared, tests_in, Asked}
 use Rattle.tree.proofs.Line.{sides_within}
-use Rattle.tree.proofs.Steps.{line_last, listed_in}
-use Rattle.tree.proofs.Listings.{prepared_small}
+use Rattle.tree.proofs.Steps.{line_last, get_d_in}
+use Rattle.tree.proofs.Listings.{prepared_list, prepared_small}
 use Rattle.tree.proofs.Sides.{side_concordant, reply_apart, reply_discordant, reply_used, reply_free}
 
-module _ {table rows exclusions arguments : List ℕ} {count : ℕ} {line : List ℕ} {depth side last : ℕ}
-    (A : Asked table rows exclusions arguments count line depth side last) (j : ℕ) (inside : j < count) where
+module _ {f : Framework} {line : List ℕ} {depth side last : ℕ}
+    (A : Asked f line depth side last) (j : ℕ) (inside : j < length f.arguments.now) where
   -- the candidate, the line's last argument, and the line before it
   abbrev x : ℕ
-  x = get_or arguments j 0
+  x = get_or f.arguments.now j 0
 
   abbrev y : ℕ
   y = get_or line (depth - 1) 0
@@ -36,29 +38,29 @@ module _ {table rows exclusions arguments : List ℕ} {count : ℕ} {line : List
   l = line_of line (depth - 1)
 
   abbrev World : Type 0
-  World = Prepared table rows exclusions arguments count
+  World = Prepared f
 
   line_is : line_of line depth ≡ y ∷ l
   line_is = line_last line depth A.deep
 
-  x_in : Memᴰ x (take count arguments)
-  x_in = listed_in arguments count j inside A.prepared.counted
+  x_in : Memᴰ x f.arguments.now
+  x_in = get_d_in f.arguments.now j inside
 
-  y_in : Memᴰ y (take count arguments)
+  y_in : Memᴰ y f.arguments.now
   y_in = A.on_line y (rw line_is (Memᴰ.head refl))
 
   side_is : union side (mask_of x) ≡ masks_of (x ∷ theirs (y ∷ l))
   side_is = ap (λ (m : ℕ). union m (mask_of x)) (A.side_masks ∙ ap (λ (k : List ℕ). masks_of (theirs k)) line_is)
 
-  side_in : (z : ℕ) → Memᴰ z (x ∷ theirs (y ∷ l)) → Memᴰ z (take count arguments)
-  side_in z (Memᴰ.head e) = subst (λ (v : ℕ). Memᴰ v (take count arguments)) (sym e) x_in
+  side_in : (z : ℕ) → Memᴰ z (x ∷ theirs (y ∷ l)) → Memᴰ z f.arguments.now
+  side_in z (Memᴰ.head e) = subst (λ (v : ℕ). Memᴰ v f.arguments.now) (sym e) x_in
   side_in z (Memᴰ.tail i) = A.on_line z (rw line_is ((sides_within (y ∷ l)).1 z i))
 
   -- what the tests of attack and defeat ask
-  pub asking_numbers : Numbers arguments count
+  pub asking_numbers : Numbers f.arguments.now (length f.arguments.now)
   asking_numbers = record {
-    enough = A.prepared.counted;
-    small = λ i h. prepared_small A.prepared (get_or arguments i 0) (listed_in arguments count i h A.prepared.counted);
+    enough = omega arith;
+    small = λ i h. prepared_small A.prepared (get_or f.arguments.now i 0) (get_d_in f.arguments.now i h);
   }
 
   pub asking_x : x < 2 ^ 23
@@ -67,26 +69,29 @@ module _ {table rows exclusions arguments : List ℕ} {count : ℕ} {line : List
   pub asking_y : y < 2 ^ 23
   asking_y = prepared_small A.prepared y y_in
 
+  listed_all : (w : World) (z : ℕ) → Memᴰ z f.arguments.now → Memᴰ z (argument_list w.program.rules)
+  listed_all w z = subst (λ (l : List ℕ). Memᴰ z l) (prepared_list w)
+
   -- ---- the answers
 
   module _ (w : World) where
     abbrev all : List ℕ
     all = argument_list w.program.rules
 
-    pub asking_apart : AttacksBy exclusions rows x y false → 0 ≡ reply_kind (tests_in w) (line_of line depth) x
+    pub asking_apart : AttacksBy f.exclusions.now f.rows.now x y false → 0 ≡ reply_kind (tests_in w) (line_of line depth) x
     asking_apart e =
         rw line_is
         (sym (reply_apart (tests_in w) y x l
-        (kind_apart w.made x y (rw w.made.listed at x_in) (rw w.made.listed at y_in) (preferred_test w.program) e)))
+        (kind_apart w.made x y (listed_all w x x_in) (listed_all w y y_in) (preferred_test w.program) e)))
 
-    concordant_is : (tests_in w).concordant (x ∷ theirs (y ∷ l)) ≡ not (tells rows 128 (union side (mask_of x)))
+    concordant_is : (tests_in w).concordant (x ∷ theirs (y ∷ l)) ≡ not (tells f.rows.now 128 (union side (mask_of x)))
     concordant_is =
-        side_concordant w.program (preferred_test w.program) rows (x ∷ theirs (y ∷ l)) w.made.told
-        ∙ ap (λ (m : ℕ). not (tells rows 128 m)) (sym side_is)
+        side_concordant w.program (preferred_test w.program) f.rows.now (x ∷ theirs (y ∷ l)) w.made.told
+        ∙ ap (λ (m : ℕ). not (tells f.rows.now 128 m)) (sym side_is)
 
-    module _ (m : ℕ) (m_is : m ≡ mask_of x) (clashes : Bool) (clashes_is : clashes ≡ tells rows 128 (union side m)) where
+    module _ (m : ℕ) (m_is : m ≡ mask_of x) (clashes : Bool) (clashes_is : clashes ≡ tells f.rows.now 128 (union side m)) where
       concordant_by : (tests_in w).concordant (x ∷ theirs (y ∷ l)) ≡ not clashes
-      concordant_by = concordant_is ∙ ap (λ (k : ℕ). not (tells rows 128 (union side k))) (sym m_is) ∙ ap not (sym clashes_is)
+      concordant_by = concordant_is ∙ ap (λ (k : ℕ). not (tells f.rows.now 128 (union side k))) (sym m_is) ∙ ap not (sym clashes_is)
 
       pub asking_discordant : clashes ≡ true → 0 ≡ reply_kind (tests_in w) (line_of line depth) x
       asking_discordant e = rw line_is (sym (reply_discordant (tests_in w) y x l (concordant_by ∙ ap not e)))
@@ -109,5 +114,5 @@ module _ {table rows exclusions arguments : List ℕ} {count : ℕ} {line : List
             r-is
             ∙ ap (λ (n : ℕ). permit k (not (eqb n 2) || eqb k 1)) (A.last_is w)
             ∙ ap (λ (n : ℕ). permit n (not (eqb (last_kind (tests_in w) (line_of line depth)) 2) || eqb n 1))
-            (k-is (rw w.made.listed at x_in) (rw w.made.listed at y_in))
+            (k-is (listed_all w x x_in) (listed_all w y y_in))
             ∙ rw line_is (sym (reply_free (tests_in w) y x l (concordant_by ∙ ap not c) (used_by ∙ u)))

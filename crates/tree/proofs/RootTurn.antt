@@ -2,116 +2,115 @@
 use mathlib.Core.Path.{◌≡◌, refl, ◌∙◌}
 use mathlib.Core.Bool.{Bool, false, ◌||◌}
 use mathlib.Core.List.{List, []}
-use Prim.Native.Nat.{ℕ, ◌+◌, ◌-◌, ◌^◌, ◌≤◌, ◌<◌}
+use mathlib.Core.Logic.{◌≢◌}
+use Prim.Native.Nat.{ℕ, ◌+◌, ◌≤◌, ◌<◌}
 use native.Mathlib.Omega.{arith}
 use lib.ListN.{length, get_or}
 use lib.Dec.{eqb}
 use Rattle.lists.proofs.Lists.{within_nil}
-use Rattle.tree.specs.Inside.Tables.{Columns, Built}
+use Rattle.argument.specs.Argument.{literal_of}
+use Rattle.tree.specs.declared.candidates.Framework.{Framework}
+use Rattle.tree.specs.declared.nodes.Columns.{Columns}
+use Rattle.tree.specs.declared.nodes.Step.{Step}
+use Rattle.tree.specs.Inside.Tables.{Fits, Over}
 use Rattle.tree.specs.Inside.Steps.{tree_entries, Prepared, tests_in, Ready}
-use Rattle.tree.specs.Inside.Roots.{RootsReady, FirstFor, TreesBuilt}
+use Rattle.tree.specs.Inside.Roots.{RootsReady, TreesBuilt, TreesOver}
+use Rattle.tree.proofs.Tables.{fits_marks}
 use Rattle.tree.proofs.Growing.{tree_room}
-use Rattle.tree.proofs.Listings.{prepared_count, prepared_listing}
-use Rattle.tree.proofs.Turn.{Long, Lengths, long_kept, long_trans, hold_long}
-use Rattle.tree.proofs.Trees.{Rooting, rooting_start, rooting_end, rooting_over, rooting_step}
+use Rattle.tree.proofs.Listings.{prepared_listing}
+use Rattle.tree.proofs.Trees.{Rooting, rooting_start, rooting_skip, rooting_end, rooting_over, rooting_step}
 
 -- The arguments before `start` are done, the tables are t, `next` is the next free number. line₀ and t₀ are the tables at
 -- the beginning.
-pub record RootTurn (table rows exclusions arguments : List ℕ) (count h : ℕ) (line₀ : List ℕ) (at limit : ℕ) (t₀ : Columns)
+pub record RootTurn (f : Framework) (h : ℕ) (line₀ : List ℕ) (at limit : ℕ) (t₀ : Columns)
     (line : List ℕ) (t : Columns) (found : Bool) (next start : ℕ) : Type 0 where
-  pub ready : RootsReady table rows exclusions arguments count line₀ at limit t₀
+  pub ready : RootsReady f line₀ at limit
   pub line_long : length line ≡ length line₀
-  pub tables_long : Long t t₀
+  pub marks_hold : limit ≤ length t.marks
   pub high : next ≤ limit
-  pub start_in : start ≤ count
-  pub rooting : (w : Prepared table rows exclusions arguments count) → Rooting (tests_in w) h at limit t₀ start next found t
+  pub rooting : (w : Prepared f) → Rooting (tests_in w) h at limit t₀ start next found t
 
-pub root_turn_start : {table rows exclusions arguments : List ℕ} {count : ℕ} (h : ℕ) {line : List ℕ} {at limit : ℕ} {t : Columns}
-    → RootsReady table rows exclusions arguments count line at limit t
-    → RootTurn table rows exclusions arguments count h line at limit t line t false at 0
-root_turn_start h {at = at} {limit = limit} {t = t} r = record {
+pub root_turn_start : {f : Framework} (h : ℕ) {line : List ℕ} {at limit : ℕ} {t : Columns}
+    → RootsReady f line at limit → limit ≤ length t.marks → RootTurn f h line at limit t line t false at 0
+root_turn_start h {at = at} {limit = limit} {t = t} r m = record {
   ready = r;
   line_long = refl;
-  tables_long = record { arguments_long = refl; parents_long = refl; kinds_long = refl; marks_long = refl };
+  marks_hold = m;
   high = r.below;
-  start_in = omega arith;
   rooting = λ w. rooting_start (tests_in w) (prepared_listing w) h at limit t r.below;
 }
 
-module _ {table rows exclusions arguments : List ℕ} {count h : ℕ} {line₀ : List ℕ} {at limit : ℕ} {t₀ : Columns}
+-- a root's step: no line is before it, and its parent is its own number
+abbrev pub root_step : (index at : ℕ) → Step
+root_step index at = record { index = index; kind = 0; depth = 0; own = 0; other = 0; parent = at; at = at }
+
+module _ {f : Framework} {h : ℕ} {line₀ : List ℕ} {at limit : ℕ} {t₀ : Columns}
     {line : List ℕ} {t : Columns} {found : Bool} {next start : ℕ}
-    (T : RootTurn table rows exclusions arguments count h line₀ at limit t₀ line t found next start)
-    {j : ℕ} (f : FirstFor h arguments count start j) where
-  abbrev World : Type 0
-  World = Prepared table rows exclusions arguments count
+    (T : RootTurn f h line₀ at limit t₀ line t found next start) where
+  pub root_turn_end : length f.arguments.now ≤ start → (w : Prepared f) → TreesBuilt (tests_in w) h at limit next found t₀ t
+  root_turn_end le w = rooting_end (tests_in w) (prepared_listing w) h at limit t₀ (T.rooting w) le
 
-  pub root_turn_end : count ≤ j → (w : World) → TreesBuilt (tests_in w) h at limit next found t₀ t
-  root_turn_end le w = rooting_end (tests_in w) (prepared_listing w) h at limit t₀ (T.rooting w) f le
+  module _ (inside : start < length f.arguments.now) where
+    abbrev x : ℕ
+    x = get_or f.arguments.now start 0
 
-  module _ (inside : j < count) where
-    -- the arguments that are left are fewer
-    pub root_turn_less : count - (j + 1) < count - start
-    root_turn_less = omega (arith, f.low)
+    -- an argument for another literal
+    pub root_turn_skip : literal_of x ≢ h → RootTurn f h line₀ at limit t₀ line t found next (start + 1)
+    root_turn_skip n = record {
+      ready = T.ready;
+      line_long = T.line_long;
+      marks_hold = T.marks_hold;
+      high = T.high;
+      rooting = λ w. rooting_skip (tests_in w) (prepared_listing w) h at limit t₀ (T.rooting w) inside n;
+    }
 
-    pub root_turn_index : j < 2 ^ 32
-    root_turn_index = omega (arith, prepared_count T.ready.prepared)
-
-    -- a root's step: no line is before it, and its parent is its own number
-    pub root_ready : Ready table rows exclusions arguments count line 0 0 0 j next 0 next limit t
+    pub root_ready : Ready f line (root_step start next) limit
     root_ready = record {
       prepared = T.ready.prepared;
       on_line = within_nil _;
       own_masks = refl;
       other_masks = refl;
       kind_is = λ w. refl;
-      argument_in_lem = inside;
+      in_list = inside;
       parent_in = omega arith;
       deep = omega arith;
       below = T.high;
       budget = T.ready.budget;
       line_holds = omega (arith, T.line_long, T.ready.line_holds);
-      tables_hold = hold_long limit T.tables_long T.ready.tables_hold;
     }
 
-    module _ (end : ℕ) (after : Columns)
-        (built : (w : World) → Built (tree_entries (tests_in w) [] (get_or arguments j 0) 0 next next) next limit end t after) where
-      pub root_turn_over : limit < end → (w : World) → TreesBuilt (tests_in w) h at limit end false t₀ after
-      root_turn_over lt w =
-          rooting_over (tests_in w) (prepared_listing w) h at limit t₀ (T.rooting w) f inside end after (built w) lt
+    module _ (is_for : literal_of x ≡ h) {after : Columns} where
+      pub root_turn_over : ((w : Prepared f) → Over (tree_entries (tests_in w) [] x 0 next next) next limit t after)
+          → (w : Prepared f) → TreesOver (tests_in w) h at limit t₀ after
+      root_turn_over o w =
+          rooting_over (tests_in w) (prepared_listing w) h at limit t₀ (T.rooting w) inside is_for (o w)
 
-      root_turn_room : end ≤ limit → next < end
-      root_turn_room le =
-          let w = T.ready.prepared in
-          tree_room (tests_in w) [] (get_or arguments j 0) 0 next next (built w) le
+      module _ {end : ℕ} (fits : (w : Prepared f) → Fits (tree_entries (tests_in w) [] x 0 next next) next limit end t after) where
+        -- the root's mark can be read
+        pub root_turn_mark : next < 4096
+        root_turn_mark =
+            let w = T.ready.prepared in
+            let b = fits w in
+            omega (arith, tree_room (tests_in w) [] x 0 next next b, b.within, T.ready.budget)
 
-      -- the root's mark can be read
-      pub root_turn_mark : end ≤ limit → length after.marks ≡ length t.marks → next < length after.marks
-      root_turn_mark le e =
-          omega (arith, root_turn_room le, (hold_long limit T.tables_long T.ready.tables_hold).marks_hold)
+        pub root_turn_step : (line' : List ℕ) (found' : Bool) → length line' ≡ length line
+            → found' ≡ (found || eqb (get_or after.marks next 0) 1)
+            → RootTurn f h line₀ at limit t₀ line' after found' end (start + 1)
+        root_turn_step line' found' nl e = record {
+          ready = T.ready;
+          line_long = nl ∙ T.line_long;
+          marks_hold = omega (arith, T.marks_hold, fits_marks (fits T.ready.prepared));
+          high = (fits T.ready.prepared).within;
+          rooting = λ w. rw e
+              (rooting_step (tests_in w) (prepared_listing w) h at limit t₀ (T.rooting w) inside is_for (fits w) T.marks_hold);
+        }
 
-      pub root_turn_step : (line' : List ℕ) (found' : Bool) {R : Type 0} → end ≤ limit → length line' ≡ length line → Lengths after t R
-          → found' ≡ (found || eqb (get_or after.marks next 0) 1)
-          → RootTurn table rows exclusions arguments count h line₀ at limit t₀ line' after found' end (j + 1)
-      root_turn_step line' found' le nl lt e = record {
-        ready = T.ready;
-        line_long = nl ∙ T.line_long;
-        tables_long = long_trans (long_kept after t lt) T.tables_long;
-        high = le;
-        start_in = omega arith;
-        rooting = λ w. rw e
-            (rooting_step (tests_in w) (prepared_listing w) h at limit t₀ (T.rooting w) f inside end after (built w) le
-            (hold_long limit T.tables_long T.ready.tables_hold).marks_hold);
-      }
-
--- the same tables after some trees were written
-pub roots_moved : {table rows exclusions arguments : List ℕ} {count : ℕ} {line : List ℕ} {at limit : ℕ} {t : Columns}
-    → RootsReady table rows exclusions arguments count line at limit t → (line' : List ℕ) (next : ℕ) (t' : Columns)
-    {R : Type 0} → next ≤ limit → length line' ≡ length line → Lengths t' t R
-    → RootsReady table rows exclusions arguments count line' next limit t'
-roots_moved {limit = limit} {t = t} r line' next t' le n h = record {
+-- the same after some trees were written
+pub roots_moved : {f : Framework} {line : List ℕ} {at limit : ℕ} → RootsReady f line at limit
+    → (line' : List ℕ) (next : ℕ) → next ≤ limit → length line' ≡ length line → RootsReady f line' next limit
+roots_moved r line' next le n = record {
   prepared = r.prepared;
   below = le;
   budget = r.budget;
   line_holds = omega (arith, n, r.line_holds);
-  tables_hold = hold_long limit (long_kept t' t h) r.tables_hold;
 }

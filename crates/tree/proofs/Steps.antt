@@ -1,17 +1,19 @@
 -- From what a step is asked to what it asks of a candidate and of a reply's step.
 use mathlib.Core.Path.{◌≡◌, refl, sym, ap, ◌∙◌, subst}
 use mathlib.Core.List.{List, [], ◌∷◌, Memᴰ}
+use mathlib.Core.Logic.{◌≢◌}
 use Prim.Native.Nat.{ℕ, zero, suc, ◌+◌, ◌-◌, ◌≤◌, ◌<◌}
 use native.Mathlib.Omega.{arith}
 use native.Mathlib.Numerals.{add-one}
-use lib.ListN.{length, get_or, take, set}
-use lib.Seq.{get_or-take, get_or-set_same, get_or-set_other, length-take-le}
+use lib.ListN.{length, get_or, set}
+use lib.Seq.{get_or-set_same, get_or-set_other}
 use Rattle.lists.specs.Lists.{Within}
 use Rattle.literals.specs.Sets.{union}
 use Rattle.argument.specs.Argument.{mask_of}
-use Rattle.tree.specs.Reply.{mine, theirs, last_kind}
-use Rattle.tree.specs.Inside.Tables.{Columns, Hold}
-use Rattle.tree.specs.Inside.Steps.{line_of, masks_of, Prepared, tests_in, Ready, Asked, FirstReply}
+use Rattle.tree.specs.declared.candidates.Framework.{Framework}
+use Rattle.tree.specs.declared.nodes.Step.{Step}
+use Rattle.tree.specs.Reply.{mine, theirs, reply_kind, last_kind}
+use Rattle.tree.specs.Inside.Steps.{line_of, masks_of, Prepared, tests_in, argument_of, answered, Ready, Asked}
 use Rattle.tree.proofs.Reply.{reply_last}
 
 -- ---- the line in its table
@@ -42,32 +44,23 @@ line_less line before depth x h = let e = rw add-one at h in cc
 
 -- ---- after a step's argument stands on the line
 
-get_d_in : (l : List ℕ) (j : ℕ) → j < length l → Memᴰ (get_or l j 0) l
+pub get_d_in : (l : List ℕ) (j : ℕ) → j < length l → Memᴰ (get_or l j 0) l
 get_d_in [] j h = absurd (omega arith)
 get_d_in (x ∷ l) zero h = Memᴰ.head refl
 get_d_in (x ∷ l) (suc j) h = Memᴰ.tail (get_d_in l j (omega arith))
-
--- number j of a table's first entries is one of them
-pub listed_in : (arguments : List ℕ) (count j : ℕ) → j < count → count ≤ length arguments
-    → Memᴰ (get_or arguments j 0) (take count arguments)
-listed_in arguments count j h le =
-    subst (λ (x : ℕ). Memᴰ x (take count arguments)) (get_or-take count arguments j 0 h)
-    (get_d_in (take count arguments) j (omega (arith, length-take-le count arguments le)))
 
 within_more : {l m : List ℕ} (x : ℕ) → Memᴰ x m → Within l m → Within (x ∷ l) m
 within_more {l} {m} x i w y (Memᴰ.head e) = subst (λ (z : ℕ). Memᴰ z m) (sym e) i
 within_more {l} {m} x i w y (Memᴰ.tail j) = w y j
 
-module _ {table rows exclusions arguments : List ℕ} {count : ℕ} {before : List ℕ}
-    {depth own other j parent kind at limit : ℕ} {tₑ : Columns}
-    (ready : Ready table rows exclusions arguments count before depth own other j parent kind at limit tₑ)
-    (line : List ℕ) (more : line_of line (depth + 1) ≡ get_or arguments j 0 ∷ line_of before depth) where
-  on_line_more : Within (line_of line (depth + 1)) (take count arguments)
+module _ {f : Framework} {before : List ℕ} {s : Step} {limit : ℕ} (ready : Ready f before s limit)
+    (line : List ℕ) (more : line_of line (s.depth + 1) ≡ argument_of f s ∷ line_of before s.depth) where
+  on_line_more : Within (line_of line (s.depth + 1)) f.arguments.now
   on_line_more = rw more
-      (within_more (get_or arguments j 0) (listed_in arguments count j ready.argument_in_lem ready.prepared.counted) ready.on_line)
+      (within_more (argument_of f s) (get_d_in f.arguments.now s.index ready.in_list) ready.on_line)
 
   -- what is asked of a candidate: its side is the other one
-  pub ready_asked : depth + 1 ≤ length line → Asked table rows exclusions arguments count line (depth + 1) other kind
+  pub ready_asked : s.depth + 1 ≤ length line → Asked f line (s.depth + 1) s.other s.kind
   ready_asked h = record {
     prepared = ready.prepared;
     on_line = on_line_more;
@@ -78,28 +71,24 @@ module _ {table rows exclusions arguments : List ℕ} {count : ℕ} {before : Li
   }
 
   -- what a reply's step is asked: the sides change places
-  pub ready_reply : (start i k next : ℕ) (t : Columns)
-      → ((w : Prepared table rows exclusions arguments count)
-      → FirstReply (tests_in w) (line_of line (depth + 1)) arguments count start i k)
-      → i < count → at < next → next ≤ limit → limit ≤ length line → Hold limit t
-      → Ready table rows exclusions arguments count line (depth + 1) other (union own (mask_of (get_or arguments j 0))) i at k next
-      limit t
-  ready_reply start i k next t first inside low high long hold = record {
+  pub ready_reply : (i k next : ℕ)
+      → ((w : Prepared f) → k ≡ reply_kind (tests_in w) (line_of line (s.depth + 1)) (get_or f.arguments.now i 0)) → k ≢ 0
+      → i < length f.arguments.now → s.at < next → next ≤ limit → limit ≤ length line
+      → Ready f line (answered s (union s.own (mask_of (argument_of f s))) i k next) limit
+  ready_reply i k next kind is_reply inside low high long = record {
     prepared = ready.prepared;
     on_line = on_line_more;
     own_masks = ready.other_masks ∙ ap (λ (l : List ℕ). masks_of (theirs l)) (sym more);
     other_masks =
-        ap (λ (m : ℕ). union m (mask_of (get_or arguments j 0))) ready.own_masks
+        ap (λ (m : ℕ). union m (mask_of (argument_of f s))) ready.own_masks
         ∙ ap (λ (l : List ℕ). masks_of (mine l)) (sym more);
     kind_is = λ w.
-        (first w).kind_is inside
-        ∙ reply_last (tests_in w) (line_of line (depth + 1)) (get_or arguments i 0)
-        (λ z. (first w).is_reply inside ((first w).kind_is inside ∙ z));
-    argument_in_lem = inside;
+        kind w
+        ∙ reply_last (tests_in w) (line_of line (s.depth + 1)) (get_or f.arguments.now i 0) (λ z. is_reply (kind w ∙ z));
+    in_list = inside;
     parent_in = omega arith;
     deep = let d = ready.deep in omega arith;
     below = high;
     budget = ready.budget;
     line_holds = long;
-    tables_hold = hold;
   }

@@ -5,9 +5,10 @@ use mathlib.Core.List.{List, ◌∷◌, ◌++◌, map, map-append}
 use Prim.Native.Nat.{ℕ, ◌+◌, ◌≤◌, ◌<◌}
 use native.Mathlib.Omega.{arith}
 use lib.ListN.{length, get_or, drop, length-map}
-use lib.Seq.{sets, sets-eq}
+use lib.Seq.{sets, sets-eq, length-sets}
 use Rattle.tree.specs.Entries.{Entry}
-use Rattle.tree.specs.Inside.Tables.{Columns, columns, written, past}
+use Rattle.tree.specs.declared.nodes.Columns.{Columns}
+use Rattle.tree.specs.Inside.Tables.{written, past, Fits}
 use Rattle.lists.proofs.Stores.{sets_append, drop_sets, get_d_first}
 
 -- ---- one column
@@ -34,20 +35,20 @@ column_front field t es h =
 -- ---- the four
 
 -- equal tables make equal columns
-pub columns_same : {a b c d a' b' c' d' : List ℕ} → a ≡ a' → b ≡ b' → c ≡ c' → d ≡ d' → columns a b c d ≡ columns a' b' c' d'
-columns_same p q r s = cc
+pub columns_same : {t u : Columns} → t.indexes ≡ u.indexes → t.parents ≡ u.parents → t.kinds ≡ u.kinds → t.marks ≡ u.marks → t ≡ u
+columns_same p q r s = λ i. record { indexes = p i; parents = q i; kinds = r i; marks = s i }
 
 module _ (t : Columns) (at : ℕ) (es : List Entry) where
   pub written_append : (fs : List Entry) → written at (es ++ fs) t ≡ written (at + length es) fs (written at es t)
   written_append fs = columns_same
-      (column_append (λ e. e.argument) t.arguments at es fs)
+      (column_append (λ e. e.argument) t.indexes at es fs)
       (column_append (λ e. e.parent) t.parents at es fs)
       (column_append (λ e. e.kind) t.kinds at es fs)
       (column_append (λ e. e.mark) t.marks at es fs)
 
   pub written_past : (n : ℕ) → at + length es ≤ n → past n (written at es t) ≡ past n t
   written_past n h = columns_same
-      (column_past (λ e. e.argument) t.arguments at es n h)
+      (column_past (λ e. e.argument) t.indexes at es n h)
       (column_past (λ e. e.parent) t.parents at es n h)
       (column_past (λ e. e.kind) t.kinds at es n h)
       (column_past (λ e. e.mark) t.marks at es n h)
@@ -57,3 +58,9 @@ pub written_mark : (e : Entry) (es : List Entry) (at : ℕ) (before after : Colu
     → at < length before.marks → get_or after.marks at 0 ≡ e.mark
 written_mark e es at before after h lt =
     ap (λ (t : Columns). get_or t.marks at 0) h ∙ get_d_first before.marks at e.mark (map (λ e. e.mark) es) lt
+
+-- a table is as long as it was
+pub fits_marks : {es : List Entry} {at limit r : ℕ} {before after : Columns} → Fits es at limit r before after
+    → length after.marks ≡ length before.marks
+fits_marks {es} {at} {before = before} f =
+    ap (λ (t : Columns). length t.marks) f.tables_are ∙ length-sets before.marks at (map (λ e. e.mark) es)

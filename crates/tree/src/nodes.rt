@@ -1,6 +1,47 @@
-// A node's entry in the tables, and its mark.
-ghost use Rattle.std.specs.Prelude.{◌≡◌};
-ghost use Rattle.tree.specs.Inside.Steps.{settled_by, Enters, Entered};
+// A step's node: its place on the line, its entry in the tables, and its mark.
+ghost use Rattle.std.specs.Prelude.{◌≡◌, ◌<◌};
+ghost use Rattle.tree.specs.Inside.Tables.{opened};
+ghost use Rattle.tree.specs.Inside.Steps.{settled_by, answered, Enters, Entered};
+
+// A forest: one table of numbers for each field of the nodes' entries, each as long as the largest budget.
+#[derive(Drop)]
+pub struct Columns {
+    pub indexes: [u32; 4096],
+    pub parents: [u32; 4096],
+    pub kinds: [u8; 4096],
+    pub marks: [u8; 4096],
+}
+
+// A step on a line: an argument, by its index in the argument list, that replies to the line's last one. `own` and `other` are
+// the masks of the step's own side on the line and of the other side; `at` is its node's number.
+#[derive(Clone, Copy)]
+pub struct Step {
+    pub index: usize,
+    pub kind: u8,
+    pub depth: usize,
+    pub own: u64,
+    pub other: u64,
+    pub parent: usize,
+    pub at: usize,
+}
+
+impl Step {
+    // The step of a reply to this one: the sides change places. `joined` has the masks of this one's side with its own.
+    pub fn answered(self, joined: u64, index: usize, kind: u8, at: usize) -> Self
+        requires { self.depth < 4096 }
+        ensures { result ≡ answered self joined index kind at }
+    {
+        Step {
+            index,
+            kind,
+            depth: self.depth + 1,
+            own: self.other,
+            other: joined,
+            parent: self.at,
+            at,
+        }
+    }
+}
 
 // A node's mark after one reply more: a reply that is marked U (1) makes it D (2).
 pub fn settled(mark: u8, reply: u8) -> u8
@@ -9,25 +50,13 @@ pub fn settled(mark: u8, reply: u8) -> u8
     if reply == 1 { 2 } else { mark }
 }
 
-// Puts argument x, number j of the list, on the line, and its node's entry but the mark into the tables.
-pub fn enter(
-    line: &mut [u32],
-    depth: usize,
-    x: u32,
-    j: usize,
-    parent: usize,
-    kind: u8,
-    at: usize,
-    indexes: &mut [u32],
-    parents: &mut [u32],
-    kinds: &mut [u8],
-)
-    requires { Enters depth j parent at line.old indexes.old parents.old kinds.old }
-    ensures { Entered depth x j parent kind at line.old indexes.old parents.old
-        kinds.old line.new indexes.new parents.new kinds.new }
+// Puts a step's argument on the line, and its node's entry but the mark into the tables.
+pub fn enter(line: &mut [u32], columns: &mut Columns, step: Step, argument: u32)
+    requires { Enters line.old step }
+    ensures { Entered line.old line.new step argument columns.old columns.new }
 {
-    line[depth] = x;
-    indexes[at] = j as u32;
-    parents[at] = parent as u32;
-    kinds[at] = kind;
+    line[step.depth] = argument;
+    columns.indexes[step.at] = step.index as u32;
+    columns.parents[step.at] = step.parent as u32;
+    columns.kinds[step.at] = step.kind;
 }

@@ -1,182 +1,90 @@
-// Supporter and objector take turns down every line. Each step writes the tree of one argument into four lent tables, in
-// preorder, and marks it.
+// Supporter and objector take turns down every line. Each step writes the tree of one argument into the tables, in preorder,
+// and marks it.
 #![tactic(auto)]
 
-ghost use Rattle.std.specs.Prelude.{◌<◌};
-ghost use Rattle.tree.specs.Inside.Tables.{columns};
 ghost use Rattle.tree.specs.Inside.Steps.{Ready, Leaves};
 
 use argument::numbers::mask_of;
-use program::RuleTable;
-use tree::candidates::first_reply;
-use tree::nodes::{enter, settled};
+use tree::candidates::{Framework, reply_kind};
+use tree::nodes::{Columns, Step, enter, settled};
 
-// Writes the tree of a supporter's argument, number j of the list, from node number `at` on. Returns the next free number,
-// or one past the limit. The line is that of the parent; `own` and `other` are the masks of the step's own side on it and of
-// the other side.
+// Writes the tree of a supporter's argument. Returns the next free number, or None where the tree has more nodes than the
+// limit leaves room for. The line is that of the parent.
 #[cycle(objector_supporter)]
 pub fn supporter(
-    table: &RuleTable,
-    rows: &[u64],
-    exclusions: &[u64; 256],
-    arguments: &[u32],
-    count: usize,
+    framework: &Framework<'_>,
     line: &mut [u32],
-    depth: usize,
-    own: u64,
-    other: u64,
-    j: usize,
-    parent: usize,
-    kind: u8,
-    at: usize,
+    step: Step,
     limit: usize,
-    indexes: &mut [u32],
-    parents: &mut [u32],
-    kinds: &mut [u8],
-    marks: &mut [u8],
-) -> usize
-    requires { Ready table.now rows.now exclusions.now arguments.now count line.old depth own other j
-        parent kind at limit (columns indexes.old parents.old kinds.old marks.old) }
-    ensures { Leaves table.now rows.now exclusions.now arguments.now count
-        line.old line.new depth j parent kind at limit result
-        (columns indexes.old parents.old kinds.old marks.old)
-        (columns indexes.new parents.new kinds.new marks.new) }
+    columns: &mut Columns,
+) -> Option<usize>
+    requires { Ready framework.now line.old step limit }
+    ensures { Leaves framework.now line.old line.new step limit result columns.old columns.new }
 {
-    if limit <= at {
-        return limit + 1;
+    if limit <= step.at {
+        return None;
     }
-    let x = arguments[j];
-    enter(line, depth, x, j, parent, kind, at, indexes, parents, kinds);
-    let supports = own | mask_of(x);
+    let argument = framework.arguments[step.index];
+    enter(line, columns, step, argument);
+    let supports = step.own | mask_of(argument);
     let mut mark = 1u8;
-    let mut next = at + 1;
-    let mut start = 0;
-    loop {
-        let objection = first_reply(
-            table,
-            rows,
-            exclusions,
-            arguments,
-            count,
+    let mut next = step.at + 1;
+    for index in 0..framework.arguments.len() {
+        let kind = reply_kind(
+            framework,
             line,
-            depth + 1,
-            other,
-            kind,
-            start,
+            step.depth + 1,
+            step.other,
+            step.kind,
+            index,
         );
-        if count <= objection.index {
-            marks[at] = mark;
-            return next;
+        if kind != 0 {
+            let objection = step.answered(supports, index, kind, next);
+            let end = objector(framework, line, objection, limit, columns)?;
+            mark = settled(mark, columns.marks[next]);
+            next = end;
         }
-        let end = objector(
-            table,
-            rows,
-            exclusions,
-            arguments,
-            count,
-            line,
-            depth + 1,
-            other,
-            supports,
-            objection.index,
-            at,
-            objection.kind,
-            next,
-            limit,
-            indexes,
-            parents,
-            kinds,
-            marks,
-        );
-        if limit < end {
-            return end;
-        }
-        mark = settled(mark, marks[next]);
-        next = end;
-        start = objection.index + 1;
     }
+    columns.marks[step.at] = mark;
+    Some(next)
 }
 
 // The same for an objector's argument.
 #[cycle(objector_supporter)]
 pub fn objector(
-    table: &RuleTable,
-    rows: &[u64],
-    exclusions: &[u64; 256],
-    arguments: &[u32],
-    count: usize,
+    framework: &Framework<'_>,
     line: &mut [u32],
-    depth: usize,
-    own: u64,
-    other: u64,
-    j: usize,
-    parent: usize,
-    kind: u8,
-    at: usize,
+    step: Step,
     limit: usize,
-    indexes: &mut [u32],
-    parents: &mut [u32],
-    kinds: &mut [u8],
-    marks: &mut [u8],
-) -> usize
-    requires { Ready table.now rows.now exclusions.now arguments.now count line.old depth own other j
-        parent kind at limit (columns indexes.old parents.old kinds.old marks.old) }
-    ensures { Leaves table.now rows.now exclusions.now arguments.now count
-        line.old line.new depth j parent kind at limit result
-        (columns indexes.old parents.old kinds.old marks.old)
-        (columns indexes.new parents.new kinds.new marks.new) }
+    columns: &mut Columns,
+) -> Option<usize>
+    requires { Ready framework.now line.old step limit }
+    ensures { Leaves framework.now line.old line.new step limit result columns.old columns.new }
 {
-    if limit <= at {
-        return limit + 1;
+    if limit <= step.at {
+        return None;
     }
-    let x = arguments[j];
-    enter(line, depth, x, j, parent, kind, at, indexes, parents, kinds);
-    let objections = own | mask_of(x);
+    let argument = framework.arguments[step.index];
+    enter(line, columns, step, argument);
+    let objections = step.own | mask_of(argument);
     let mut mark = 1u8;
-    let mut next = at + 1;
-    let mut start = 0;
-    loop {
-        let support = first_reply(
-            table,
-            rows,
-            exclusions,
-            arguments,
-            count,
+    let mut next = step.at + 1;
+    for index in 0..framework.arguments.len() {
+        let kind = reply_kind(
+            framework,
             line,
-            depth + 1,
-            other,
-            kind,
-            start,
+            step.depth + 1,
+            step.other,
+            step.kind,
+            index,
         );
-        if count <= support.index {
-            marks[at] = mark;
-            return next;
+        if kind != 0 {
+            let support = step.answered(objections, index, kind, next);
+            let end = supporter(framework, line, support, limit, columns)?;
+            mark = settled(mark, columns.marks[next]);
+            next = end;
         }
-        let end = supporter(
-            table,
-            rows,
-            exclusions,
-            arguments,
-            count,
-            line,
-            depth + 1,
-            other,
-            objections,
-            support.index,
-            at,
-            support.kind,
-            next,
-            limit,
-            indexes,
-            parents,
-            kinds,
-            marks,
-        );
-        if limit < end {
-            return end;
-        }
-        mark = settled(mark, marks[next]);
-        next = end;
-        start = support.index + 1;
     }
+    columns.marks[step.at] = mark;
+    Some(next)
 }

@@ -1,5 +1,5 @@
 -- What the steps of supporter and objector are asked, and what they leave.
-use Rattle.std.specs.Prelude.{◌≡◌, List, [], ◌∷◌, ◌≢◌, ℕ, zero, suc, ◌^◌, ◌≤◌, ◌<◌, length, get_or, take, set, eqb}
+use Rattle.std.specs.Prelude.{◌≡◌, List, [], ◌∷◌, ℕ, zero, suc, ◌+◌, ◌^◌, ◌≤◌, ◌<◌, length, get_or, set, eqb, Option}
 use Rattle.lists.specs.Lists.{Within, choose, index_in}
 use Rattle.literals.specs.Sets.{union}
 use Rattle.program.specs.Program.{Program}
@@ -9,10 +9,13 @@ use Rattle.defeat.specs.Tests.{Tests}
 use Rattle.preference.specs.Preference.{preferred_test}
 use Rattle.defeat.specs.Inside.Exclusions.{Ready as Made}
 use Rattle.defeat.specs.OfProgram.{tests_of}
-use Rattle.tree.specs.Reply.{mine, theirs, reply_kind, last_kind}
+use Rattle.tree.specs.declared.candidates.Framework.{Framework}
+use Rattle.tree.specs.declared.nodes.Columns.{Columns}
+use Rattle.tree.specs.declared.nodes.Step.{Step}
+use Rattle.tree.specs.Reply.{mine, theirs, last_kind}
 use Rattle.tree.specs.Forest.{none, tree, replies}
 use Rattle.tree.specs.Entries.{Entry, preorder}
-use Rattle.tree.specs.Inside.Tables.{Columns, Hold, Built}
+use Rattle.tree.specs.Inside.Tables.{opened, Built}
 
 -- a table holds the line with its root first; as a list its last argument is first
 abbrev pub line_of : List ℕ → (depth : ℕ) → List ℕ
@@ -32,76 +35,74 @@ tree_entries t l x kind at parent = preorder (index_in t.arguments) at parent (t
 abbrev pub settled_by : (mark reply : ℕ) → ℕ
 settled_by mark reply = choose (eqb reply 1) 2 mark
 
--- the tables that a call lends down hold one program: its rules, its rows, its exclusion sets and its argument list
-pub record Prepared (table rows exclusions arguments : List ℕ) (count : ℕ) : Type 0 where
+-- the tables that trees grow from hold one program: its rules, its rows, its exclusion sets and its argument list
+pub record Prepared (f : Framework) : Type 0 where
   pub program : Program
   pub conclusions : ℕ
-  pub made : Made program conclusions table rows exclusions arguments count
-  pub laid : Laid rows
-  pub counted : count ≤ length arguments
+  pub made : Made program conclusions f.table.now f.rows.now f.exclusions.now f.arguments.now (length f.arguments.now)
+  pub laid : Laid f.rows.now
 
-module _ {table rows exclusions arguments : List ℕ} {count : ℕ} where
-  -- the tests of that program
-  abbrev pub tests_in : Prepared table rows exclusions arguments count → Tests ℕ
-  tests_in w = tests_of w.program (preferred_test w.program)
+-- the tests of that program
+abbrev pub tests_in : {f : Framework} → Prepared f → Tests ℕ
+tests_in w = tests_of w.program (preferred_test w.program)
 
--- what a step is asked. The argument is number j of the list, and the line so far is that of its parent: `own` has the
--- masks of its side on the line, `other` those of the other side.
-pub record Ready (table rows exclusions arguments : List ℕ) (count : ℕ) (line : List ℕ)
-    (depth own other j parent kind at limit : ℕ) (t : Columns) : Type 0 where
-  pub prepared : Prepared table rows exclusions arguments count
-  pub on_line : Within (line_of line depth) (take count arguments)
-  pub own_masks : own ≡ masks_of (theirs (line_of line depth))
-  pub other_masks : other ≡ masks_of (mine (line_of line depth))
-  pub kind_is : (w : Prepared table rows exclusions arguments count)
-      → kind ≡ last_kind (tests_in w) (get_or arguments j 0 ∷ line_of line depth)
-  pub argument_in_lem : j < count
-  pub parent_in : parent ≤ at
-  pub deep : depth ≤ at
-  pub below : at ≤ limit
+-- a step's argument
+abbrev pub argument_of : Framework → Step → ℕ
+argument_of f s = get_or f.arguments.now s.index 0
+
+-- what a step is asked. The line so far is that of its parent: `own` has the masks of its side on the line, `other` those of
+-- the other side.
+pub record Ready (f : Framework) (line : List ℕ) (s : Step) (limit : ℕ) : Type 0 where
+  pub prepared : Prepared f
+  pub on_line : Within (line_of line s.depth) f.arguments.now
+  pub own_masks : s.own ≡ masks_of (theirs (line_of line s.depth))
+  pub other_masks : s.other ≡ masks_of (mine (line_of line s.depth))
+  pub kind_is : (w : Prepared f) → s.kind ≡ last_kind (tests_in w) (argument_of f s ∷ line_of line s.depth)
+  pub in_list : s.index < length f.arguments.now
+  pub parent_in : s.parent ≤ s.at
+  pub deep : s.depth ≤ s.at
+  pub below : s.at ≤ limit
   pub budget : limit ≤ 4096
   pub line_holds : limit ≤ length line
-  pub tables_hold : Hold limit t
 
 -- what a step leaves, r being its result: the tree of the argument is built below its parent, from number `at` on, and the line
 -- up to the argument is as it was
-abbrev pub Leaves : (table rows exclusions arguments : List ℕ) (count : ℕ) (line line' : List ℕ)
-    (depth j parent kind at limit r : ℕ) (t t' : Columns) → Type 0
-Leaves table rows exclusions arguments count line line' depth j parent kind at limit r t t' =
-    ((w : Prepared table rows exclusions arguments count)
-    → Built (tree_entries (tests_in w) (line_of line depth) (get_or arguments j 0) kind at parent) at limit r t t')
-    × (line_of line' depth ≡ line_of line depth)
+abbrev pub Leaves : (f : Framework) (line line' : List ℕ) (s : Step) (limit : ℕ) (r : Option ℕ) (t t' : Columns) → Type 0
+Leaves f line line' s limit r t t' =
+    ((w : Prepared f)
+    → Built (tree_entries (tests_in w) (line_of line s.depth) (argument_of f s) s.kind s.at s.parent) s.at limit r t t')
+    × (line_of line' s.depth ≡ line_of line s.depth)
+
+-- the step of a reply to a step: the sides change places
+abbrev pub answered : (s : Step) (joined index kind at : ℕ) → Step
+answered s joined index kind at = record {
+  index = index;
+  kind = kind;
+  depth = s.depth + 1;
+  own = s.other;
+  other = joined;
+  parent = s.at;
+  at = at;
+}
 
 -- what is asked of a candidate: the line is that of the node it replies to, `side` has the masks of the candidate's side
 -- on it, and `last` is the kind of its last argument
-pub record Asked (table rows exclusions arguments : List ℕ) (count : ℕ) (line : List ℕ) (depth side last : ℕ)
-    : Type 0 where
-  pub prepared : Prepared table rows exclusions arguments count
-  pub on_line : Within (line_of line depth) (take count arguments)
+pub record Asked (f : Framework) (line : List ℕ) (depth side last : ℕ) : Type 0 where
+  pub prepared : Prepared f
+  pub on_line : Within (line_of line depth) f.arguments.now
   pub side_masks : side ≡ masks_of (theirs (line_of line depth))
-  pub last_is : (w : Prepared table rows exclusions arguments count) → last ≡ last_kind (tests_in w) (line_of line depth)
+  pub last_is : (w : Prepared f) → last ≡ last_kind (tests_in w) (line_of line depth)
   pub deep : 0 < depth
   pub line_holds : depth ≤ length line
 
--- number `index`, of this kind, is the first candidate from `start` on that is a reply to the line, or none is
-pub record FirstReply (t : Tests ℕ) (l arguments : List ℕ) (count start index kind : ℕ) : Type 0 where
-  pub none_before : (i : ℕ) → start ≤ i → i < index → reply_kind t l (get_or arguments i 0) ≡ 0
-  pub kind_is : index < count → kind ≡ reply_kind t l (get_or arguments index 0)
-  pub is_reply : index < count → kind ≢ 0
-
 -- what is asked before a node is entered: each table has its place, and the numbers fit
-pub record Enters (depth j parent at : ℕ) (line indexes parents kinds : List ℕ) : Type 0 where
-  pub line_holds : depth < length line
-  pub indexes_hold : at < length indexes
-  pub parents_hold : at < length parents
-  pub kinds_hold : at < length kinds
-  pub index_fits : j < 2 ^ 32
-  pub parent_fits : parent < 2 ^ 32
+pub record Enters (line : List ℕ) (s : Step) : Type 0 where
+  pub line_holds : s.depth < length line
+  pub tables_hold : s.at < 4096
+  pub index_fits : s.index < 2 ^ 32
+  pub parent_fits : s.parent < 2 ^ 32
 
 -- what that leaves in the tables
-pub record Entered (depth x j parent kind at : ℕ) (line indexes parents kinds line' indexes' parents' kinds' : List ℕ)
-    : Type 0 where
-  pub line_is : line' ≡ set line depth x
-  pub indexes_are : indexes' ≡ set indexes at j
-  pub parents_are : parents' ≡ set parents at parent
-  pub kinds_are : kinds' ≡ set kinds at kind
+pub record Entered (line line' : List ℕ) (s : Step) (argument : ℕ) (t t' : Columns) : Type 0 where
+  pub line_is : line' ≡ set line s.depth argument
+  pub tables_are : t' ≡ opened s.at s.index s.parent s.kind t

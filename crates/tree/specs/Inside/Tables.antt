@@ -1,38 +1,59 @@
--- A forest in lent tables: one table of numbers for each field of the nodes' entries.
-use Rattle.std.specs.Prelude.{◌≡◌, List, map, ℕ, ◌+◌, ◌<◌, ◌≤◌, length, drop}
+-- A forest in tables: one table of numbers for each field of the nodes' entries.
+use Rattle.std.specs.Prelude.{◌≡◌, List, map, ℕ, ◌+◌, ◌<◌, ◌≤◌, length, drop, set, Option, Some, None}
 use Rattle.std.proofs.lemmas.List.Edits.{sets}
+use Rattle.tree.specs.declared.nodes.Columns.{Columns}
 use Rattle.tree.specs.Entries.{Entry}
-
-pub record Columns : Type 0 where
-  pub arguments : List ℕ
-  pub parents : List ℕ
-  pub kinds : List ℕ
-  pub marks : List ℕ
-
-abbrev pub columns : (arguments parents kinds marks : List ℕ) → Columns
-columns a p k m = record { arguments = a; parents = p; kinds = k; marks = m }
 
 -- the tables with the entries from node number `at` on, and all else as it was
 abbrev pub written : ℕ → List Entry → Columns → Columns
-written at es t = columns
-    (sets t.arguments at (map (λ e. e.argument) es))
-    (sets t.parents at (map (λ e. e.parent) es))
-    (sets t.kinds at (map (λ e. e.kind) es))
-    (sets t.marks at (map (λ e. e.mark) es))
+written at es t = record {
+  indexes = sets t.indexes at (map (λ e. e.argument) es);
+  parents = sets t.parents at (map (λ e. e.parent) es);
+  kinds = sets t.kinds at (map (λ e. e.kind) es);
+  marks = sets t.marks at (map (λ e. e.mark) es);
+}
+
+-- with a node's entry but the mark, before its replies are written
+abbrev pub opened : ℕ → (argument parent kind : ℕ) → Columns → Columns
+opened at a p k t = record {
+  indexes = set t.indexes at a;
+  parents = set t.parents at p;
+  kinds = set t.kinds at k;
+  marks = t.marks;
+}
+
+-- and with its mark, after
+abbrev pub closed : ℕ → (mark : ℕ) → Columns → Columns
+closed at m t = record { indexes = t.indexes; parents = t.parents; kinds = t.kinds; marks = set t.marks at m }
 
 -- what stands past the first n entries
 abbrev pub past : ℕ → Columns → Columns
-past n t = columns (drop n t.arguments) (drop n t.parents) (drop n t.kinds) (drop n t.marks)
+past n t = record {
+  indexes = drop n t.indexes;
+  parents = drop n t.parents;
+  kinds = drop n t.kinds;
+  marks = drop n t.marks;
+}
 
 -- each table has n entries or more
 pub record Hold (n : ℕ) (t : Columns) : Type 0 where
-  pub arguments_hold : n ≤ length t.arguments
+  pub indexes_hold : n ≤ length t.indexes
   pub parents_hold : n ≤ length t.parents
   pub kinds_hold : n ≤ length t.kinds
   pub marks_hold : n ≤ length t.marks
 
--- The entries are written from number `at` on, and r is the next free number. Or they are more than the limit leaves room
--- for: r is one past it, and the tables keep what stands past the limit.
-pub data Built (es : List Entry) (at limit r : ℕ) (before after : Columns) : Type 0 where
-  fits : r ≡ at + length es → r ≤ limit → after ≡ written at es before → Built es at limit r before after
-  over : r ≡ limit + 1 → limit < at + length es → past limit after ≡ past limit before → Built es at limit r before after
+-- the entries are written from number `at` on, and r is the next free number
+pub record Fits (es : List Entry) (at limit r : ℕ) (before after : Columns) : Type 0 where
+  pub next_is : r ≡ at + length es
+  pub within : r ≤ limit
+  pub tables_are : after ≡ written at es before
+
+-- the entries are more than the limit leaves room for, and the tables keep what stands past the limit
+pub record Over (es : List Entry) (at limit : ℕ) (before after : Columns) : Type 0 where
+  pub more : limit < at + length es
+  pub kept : past limit after ≡ past limit before
+
+-- the one with the next free number, or the other
+abbrev pub Built : List Entry → (at limit : ℕ) → Option ℕ → (before after : Columns) → Type 0
+Built es at limit (Some r) before after = Fits es at limit r before after
+Built es at limit None before after = Over es at limit before after

@@ -1,90 +1,108 @@
--- The answers stand in the order of the code: the budget, the node that is entered, the loop; no candidate is left; the other
--- side's step and what it leaves; its tree does not fit; its mark, and the next turn. Each cites the law of a turn for it.
+-- The answers stand in the order of the code: the budget, the node that is entered, the loop; the other side's step on a reply,
+-- its tree that does not fit, its mark; a candidate that is no reply; no candidate is left. Each cites the law of a turn for it.
 use mathlib.Core.Path.{refl, ap}
+use native.Mathlib.Omega.{arith}
 use Rattle.literals.specs.Sets.{union}
-use Rattle.tree.proofs.Turn.{turn_none, turn_enters, turn_start, turn_asked, turn_end, turn_ready, turn_over, turn_mark, turn_less, turn_step}
+use Rattle.tree.proofs.Turn.{turn_none, turn_enters, turn_start, turn_asked, turn_skip, turn_ready, turn_over, turn_left, turn_mark, turn_step, turn_end, turn_kept}
 use Rattle.turns.proofs.+objector_supporter.Goals as goal
+use Rattle.turns.proofs.+objector_supporter.Goals.{supporter-then-kind-ne0+in_ok-end, supporter-else-kind-ne0, objector-then-kind-ne0+in_ok-end, objector-else-kind-ne0}
 
-pub supporter-returns-then-limit-at : goal.supporter-returns-then-limit-at
-supporter-returns-then-limit-at t c = turn_none c.requires c.if-limit-at.true
+pub supporter-returns-then-limit-step : goal.supporter-returns-then-limit-step
+supporter-returns-then-limit-step t c = (turn_none c.requires c.if-limit-step.true _, refl)
 
 pub supporter-enter-requires : goal.supporter-enter-requires
-supporter-enter-requires t c = turn_enters c.requires c.if-limit-at.false
+supporter-enter-requires t c = turn_enters c.requires c.if-limit-step.false
 
-pub supporter-loop-objection-init : goal.supporter-loop-objection-init
-supporter-loop-objection-init t c =
-    turn_start c.requires c.if-limit-at.false _ c.enter.ensures _ refl (ap (union c.args.own) c.mask_of.ensures)
+pub supporter-loop-index-init : goal.supporter-loop-index-init
+supporter-loop-index-init t c =
+    turn_start c.requires c.if-limit-step.false _ (ap (union c.args.step.own) c.mask_of.ensures) c.enter.ensures
+    (let b = c.requires.budget in omega arith)
 
-pub supporter-first_reply-objection-requires-clause-asked : goal.supporter-first_reply-objection-requires-clause-asked
-supporter-first_reply-objection-requires-clause-asked t c = (turn_asked c.loop-objection.invariant).0
+pub supporter-reply_kind-kind-requires-clause-asked : goal.supporter-reply_kind-kind-requires-clause-asked
+supporter-reply_kind-kind-requires-clause-asked t c = turn_asked c.loop-index.invariant
 
-pub supporter-first_reply-objection-requires-clause-start_le_count : goal.supporter-first_reply-objection-requires-clause-start_le_count
-supporter-first_reply-objection-requires-clause-start_le_count t c = (turn_asked c.loop-objection.invariant).1
+pub supporter-objector-requires : goal.supporter-objector-requires
+supporter-objector-requires t c =
+    rw c.answered-objection.ensures
+    (turn_ready c.loop-index.invariant c.loop-index-test.true _ c.reply_kind-kind.ensures c.if-kind-ne0.true c.decreases)
 
-pub supporter-returns-then-count-objection : goal.supporter-returns-then-count-objection
-supporter-returns-then-count-objection t c =
-    turn_end c.requires c.if-limit-at.false c.enter.ensures c.loop-objection.invariant (c.first_reply-objection.ensures.start_le_index, c.first_reply-objection.ensures.first_reply) c.if-count-objection.true
+pub supporter-returns-in_err-end : goal.supporter-returns-in_err-end
+supporter-returns-in_err-end t c =
+    let T = c.loop-index.invariant in
+    let left = rw c.answered-objection.ensures at c.in_err-end.ensures in
+    rw c.from_residual.ensures (
+      turn_over T c.loop-index-test.true _ c.reply_kind-kind.ensures c.if-kind-ne0.true left.0,
+      turn_left T c.loop-index-test.true _ c.reply_kind-kind.ensures c.if-kind-ne0.true _ left.1,
+    )
 
-pub supporter-objector-end-requires : goal.supporter-objector-end-requires
-supporter-objector-end-requires t c =
-    turn_ready c.loop-objection.invariant (c.first_reply-objection.ensures.start_le_index, c.first_reply-objection.ensures.first_reply) c.if-count-objection.false c.decreases
+pub supporter-bounds-columns-next : goal.supporter-bounds-columns-next
+supporter-bounds-columns-next t c =
+    let left = rw c.answered-objection.ensures at c.in_ok-end.ensures in
+    turn_mark c.loop-index.invariant c.loop-index-test.true _ c.reply_kind-kind.ensures c.if-kind-ne0.true left.0
 
-pub supporter-returns-then-limit-end : goal.supporter-returns-then-limit-end
-supporter-returns-then-limit-end t c =
-    turn_over c.requires c.if-limit-at.false c.enter.ensures c.loop-objection.invariant (c.first_reply-objection.ensures.start_le_index, c.first_reply-objection.ensures.first_reply) c.if-count-objection.false
-    c.objector-end.new.line c.objector-end.ensures c.if-limit-end.true
+pub supporter-loop-index-preserved : goal.supporter-loop-index-preserved
+supporter-loop-index-preserved t c =
+    let T = c.loop-index.invariant in
+    elim c.if-kind-ne0.branch [
+      | supporter-then-kind-ne0+in_ok-end w ↦
+          let left = rw w.answered-objection.ensures at w.in_ok-end.ensures in
+          rw (w.line-is, w.columns-is, w.mark-is, w.next-is)
+          (turn_step T c.loop-index-test.true _ c.reply_kind-kind.ensures w.if-kind-ne0.true left.0 _ left.1
+          w.objector.auto.line w.settled-mark.ensures)
+      | supporter-else-kind-ne0 w ↦
+          rw (w.line-is, w.columns-is, w.mark-is, w.next-is)
+          (turn_skip T c.loop-index-test.true _ c.reply_kind-kind.ensures w.if-kind-ne0.false)
+    ]
 
-pub supporter-bounds-marks-next : goal.supporter-bounds-marks-next
-supporter-bounds-marks-next t c =
-    turn_mark c.loop-objection.invariant (c.first_reply-objection.ensures.start_le_index, c.first_reply-objection.ensures.first_reply) c.if-count-objection.false _ c.objector-end.ensures c.if-limit-end.false c.objector-end.auto.marks
+pub supporter-returns : goal.supporter-returns
+supporter-returns t c = (turn_end c.loop-index.invariant c.loop-index-test.false, turn_kept c.loop-index.invariant)
 
-pub supporter-loop-objection-smaller : goal.supporter-loop-objection-smaller
-supporter-loop-objection-smaller t c = turn_less c.loop-objection.invariant (c.first_reply-objection.ensures.start_le_index, c.first_reply-objection.ensures.first_reply) c.if-count-objection.false
-
-pub supporter-loop-objection-preserved : goal.supporter-loop-objection-preserved
-supporter-loop-objection-preserved t c =
-    let long = c.objector-end.auto in
-    turn_step c.loop-objection.invariant (c.first_reply-objection.ensures.start_le_index, c.first_reply-objection.ensures.first_reply) c.if-count-objection.false _ c.objector-end.ensures c.if-limit-end.false long.line
-    (long.indexes, (long.parents, (long.kinds, (long.marks, long.marks)))) c.settled-mark.ensures
-
-pub objector-returns-then-limit-at : goal.objector-returns-then-limit-at
-objector-returns-then-limit-at t c = turn_none c.requires c.if-limit-at.true
+pub objector-returns-then-limit-step : goal.objector-returns-then-limit-step
+objector-returns-then-limit-step t c = (turn_none c.requires c.if-limit-step.true _, refl)
 
 pub objector-enter-requires : goal.objector-enter-requires
-objector-enter-requires t c = turn_enters c.requires c.if-limit-at.false
+objector-enter-requires t c = turn_enters c.requires c.if-limit-step.false
 
-pub objector-loop-support-init : goal.objector-loop-support-init
-objector-loop-support-init t c =
-    turn_start c.requires c.if-limit-at.false _ c.enter.ensures _ refl (ap (union c.args.own) c.mask_of.ensures)
+pub objector-loop-index-init : goal.objector-loop-index-init
+objector-loop-index-init t c =
+    turn_start c.requires c.if-limit-step.false _ (ap (union c.args.step.own) c.mask_of.ensures) c.enter.ensures
+    (let b = c.requires.budget in omega arith)
 
-pub objector-first_reply-support-requires-clause-asked : goal.objector-first_reply-support-requires-clause-asked
-objector-first_reply-support-requires-clause-asked t c = (turn_asked c.loop-support.invariant).0
+pub objector-reply_kind-kind-requires-clause-asked : goal.objector-reply_kind-kind-requires-clause-asked
+objector-reply_kind-kind-requires-clause-asked t c = turn_asked c.loop-index.invariant
 
-pub objector-first_reply-support-requires-clause-start_le_count : goal.objector-first_reply-support-requires-clause-start_le_count
-objector-first_reply-support-requires-clause-start_le_count t c = (turn_asked c.loop-support.invariant).1
+pub objector-supporter-requires : goal.objector-supporter-requires
+objector-supporter-requires t c =
+    rw c.answered-support.ensures
+    (turn_ready c.loop-index.invariant c.loop-index-test.true _ c.reply_kind-kind.ensures c.if-kind-ne0.true c.decreases)
 
-pub objector-returns-then-count-support : goal.objector-returns-then-count-support
-objector-returns-then-count-support t c =
-    turn_end c.requires c.if-limit-at.false c.enter.ensures c.loop-support.invariant (c.first_reply-support.ensures.start_le_index, c.first_reply-support.ensures.first_reply) c.if-count-support.true
+pub objector-returns-in_err-end : goal.objector-returns-in_err-end
+objector-returns-in_err-end t c =
+    let T = c.loop-index.invariant in
+    let left = rw c.answered-support.ensures at c.in_err-end.ensures in
+    rw c.from_residual.ensures (
+      turn_over T c.loop-index-test.true _ c.reply_kind-kind.ensures c.if-kind-ne0.true left.0,
+      turn_left T c.loop-index-test.true _ c.reply_kind-kind.ensures c.if-kind-ne0.true _ left.1,
+    )
 
-pub objector-supporter-end-requires : goal.objector-supporter-end-requires
-objector-supporter-end-requires t c =
-    turn_ready c.loop-support.invariant (c.first_reply-support.ensures.start_le_index, c.first_reply-support.ensures.first_reply) c.if-count-support.false c.decreases
+pub objector-bounds-columns-next : goal.objector-bounds-columns-next
+objector-bounds-columns-next t c =
+    let left = rw c.answered-support.ensures at c.in_ok-end.ensures in
+    turn_mark c.loop-index.invariant c.loop-index-test.true _ c.reply_kind-kind.ensures c.if-kind-ne0.true left.0
 
-pub objector-returns-then-limit-end : goal.objector-returns-then-limit-end
-objector-returns-then-limit-end t c =
-    turn_over c.requires c.if-limit-at.false c.enter.ensures c.loop-support.invariant (c.first_reply-support.ensures.start_le_index, c.first_reply-support.ensures.first_reply) c.if-count-support.false
-    c.supporter-end.new.line c.supporter-end.ensures c.if-limit-end.true
+pub objector-loop-index-preserved : goal.objector-loop-index-preserved
+objector-loop-index-preserved t c =
+    let T = c.loop-index.invariant in
+    elim c.if-kind-ne0.branch [
+      | objector-then-kind-ne0+in_ok-end w ↦
+          let left = rw w.answered-support.ensures at w.in_ok-end.ensures in
+          rw (w.line-is, w.columns-is, w.mark-is, w.next-is)
+          (turn_step T c.loop-index-test.true _ c.reply_kind-kind.ensures w.if-kind-ne0.true left.0 _ left.1
+          w.supporter.auto.line w.settled-mark.ensures)
+      | objector-else-kind-ne0 w ↦
+          rw (w.line-is, w.columns-is, w.mark-is, w.next-is)
+          (turn_skip T c.loop-index-test.true _ c.reply_kind-kind.ensures w.if-kind-ne0.false)
+    ]
 
-pub objector-bounds-marks-next : goal.objector-bounds-marks-next
-objector-bounds-marks-next t c =
-    turn_mark c.loop-support.invariant (c.first_reply-support.ensures.start_le_index, c.first_reply-support.ensures.first_reply) c.if-count-support.false _ c.supporter-end.ensures c.if-limit-end.false c.supporter-end.auto.marks
-
-pub objector-loop-support-smaller : goal.objector-loop-support-smaller
-objector-loop-support-smaller t c = turn_less c.loop-support.invariant (c.first_reply-support.ensures.start_le_index, c.first_reply-support.ensures.first_reply) c.if-count-support.false
-
-pub objector-loop-support-preserved : goal.objector-loop-support-preserved
-objector-loop-support-preserved t c =
-    let long = c.supporter-end.auto in
-    turn_step c.loop-support.invariant (c.first_reply-support.ensures.start_le_index, c.first_reply-support.ensures.first_reply) c.if-count-support.false _ c.supporter-end.ensures c.if-limit-end.false long.line
-    (long.indexes, (long.parents, (long.kinds, (long.marks, long.marks)))) c.settled-mark.ensures
+pub objector-returns : goal.objector-returns
+objector-returns t c = (turn_end c.loop-index.invariant c.loop-index-test.false, turn_kept c.loop-index.invariant)

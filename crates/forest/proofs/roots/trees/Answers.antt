@@ -1,61 +1,31 @@
-use mathlib.Core.Path.{◌∙◌}
+-- A root's step, its tree that does not fit, its mark; an argument for another literal; no argument is left.
+use mathlib.Core.Path.{refl, sym, ◌∙◌}
 use native.Mathlib.Omega.{arith}
-use Rattle.tree.proofs.RootTurn.{root_turn_start, root_turn_end, root_ready, root_turn_over, root_turn_mark, root_turn_index, root_turn_less, root_turn_step}
+use Rattle.tree.proofs.RootTurn.{root_turn_start, root_turn_skip, root_turn_end, root_turn_over, root_turn_mark, root_turn_step}
 use Rattle.forest.proofs.roots.trees.Goals as goal
+use Rattle.forest.proofs.roots.trees.Goals.{then-literal_of-literal+in_ok-end, else-literal_of-literal}
 
-pub loop-count-init : goal.loop-count-init
-loop-count-init c = root_turn_start c.args.literal c.requires
+pub loop-index-init : goal.loop-index-init
+loop-index-init c = root_turn_start c.args.literal c.requires (let b = c.requires.budget in omega arith)
 
-pub first_for-j-requires : goal.first_for-j-requires
-first_for-j-requires c = (c.loop-count.invariant.ready.prepared.counted, c.loop-count.invariant.start_in)
+pub returns-in_err-end : goal.returns-in_err-end
+returns-in_err-end c = rw c.from_residual.ensures
+    (root_turn_over c.loop-index.invariant c.loop-index-test.true (sym c.literal_of.ensures.0 ∙ c.if-literal_of-literal.true) (rw c.in_err-end.was at c.supporter.ensures.0))
 
-pub shape_of-line-then-count-j : goal.shape_of-line-then-count-j
-shape_of-line-then-count-j c = c.loop-count.invariant.line_long
+pub bounds-columns-next : goal.bounds-columns-next
+bounds-columns-next c = root_turn_mark c.loop-index.invariant c.loop-index-test.true (sym c.literal_of.ensures.0 ∙ c.if-literal_of-literal.true) (rw c.in_ok-end.was at c.supporter.ensures.0)
 
-pub shape_of-indexes-then-count-j : goal.shape_of-indexes-then-count-j
-shape_of-indexes-then-count-j c = c.loop-count.invariant.tables_long.arguments_long
+pub loop-index-preserved : goal.loop-index-preserved
+loop-index-preserved c = elim c.if-literal_of-literal.branch [
+  | then-literal_of-literal+in_ok-end w ↦
+      rw (w.line-is, w.columns-is, w.undefeated-is, w.next-is)
+      (root_turn_step c.loop-index.invariant c.loop-index-test.true (sym c.literal_of.ensures.0 ∙ w.if-literal_of-literal.true)
+      (rw w.in_ok-end.was at w.supporter.ensures.0) _ _ w.supporter.auto.line refl)
+  | else-literal_of-literal w ↦
+      rw (w.line-is, w.columns-is, w.undefeated-is, w.next-is)
+      (root_turn_skip c.loop-index.invariant c.loop-index-test.true
+      (λ e. w.if-literal_of-literal.false (c.literal_of.ensures.0 ∙ e)))
+]
 
-pub shape_of-parents-then-count-j : goal.shape_of-parents-then-count-j
-shape_of-parents-then-count-j c = c.loop-count.invariant.tables_long.parents_long
-
-pub shape_of-kinds-then-count-j : goal.shape_of-kinds-then-count-j
-shape_of-kinds-then-count-j c = c.loop-count.invariant.tables_long.kinds_long
-
-pub shape_of-marks-then-count-j : goal.shape_of-marks-then-count-j
-shape_of-marks-then-count-j c = c.loop-count.invariant.tables_long.marks_long
-
-pub returns-then-count-j : goal.returns-then-count-j
-returns-then-count-j c = root_turn_end c.loop-count.invariant c.first_for-j.ensures c.if-count-j.true
-
-pub supporter-end-requires : goal.supporter-end-requires
-supporter-end-requires c = root_ready c.loop-count.invariant c.first_for-j.ensures c.if-count-j.false
-
-pub shape_of-line-then-limit-end : goal.shape_of-line-then-limit-end
-shape_of-line-then-limit-end c = c.supporter-end.auto.line ∙ c.loop-count.invariant.line_long
-
-pub shape_of-indexes-then-limit-end : goal.shape_of-indexes-then-limit-end
-shape_of-indexes-then-limit-end c = c.supporter-end.auto.indexes ∙ c.loop-count.invariant.tables_long.arguments_long
-
-pub shape_of-parents-then-limit-end : goal.shape_of-parents-then-limit-end
-shape_of-parents-then-limit-end c = c.supporter-end.auto.parents ∙ c.loop-count.invariant.tables_long.parents_long
-
-pub shape_of-kinds-then-limit-end : goal.shape_of-kinds-then-limit-end
-shape_of-kinds-then-limit-end c = c.supporter-end.auto.kinds ∙ c.loop-count.invariant.tables_long.kinds_long
-
-pub shape_of-marks-then-limit-end : goal.shape_of-marks-then-limit-end
-shape_of-marks-then-limit-end c = c.supporter-end.auto.marks ∙ c.loop-count.invariant.tables_long.marks_long
-
-pub returns-then-limit-end : goal.returns-then-limit-end
-returns-then-limit-end c = root_turn_over c.loop-count.invariant c.first_for-j.ensures c.if-count-j.false _ _ c.supporter-end.ensures.0 c.if-limit-end.true
-
-pub bounds-marks-next : goal.bounds-marks-next
-bounds-marks-next c = root_turn_mark c.loop-count.invariant c.first_for-j.ensures c.if-count-j.false _ _ c.supporter-end.ensures.0 c.if-limit-end.false c.supporter-end.auto.marks
-
-pub overflow_add-start : goal.overflow_add-start
-overflow_add-start c = omega (arith, root_turn_index c.loop-count.invariant c.first_for-j.ensures c.if-count-j.false)
-
-pub loop-count-smaller : goal.loop-count-smaller
-loop-count-smaller c = omega (arith, root_turn_less c.loop-count.invariant c.first_for-j.ensures c.if-count-j.false)
-
-pub loop-count-preserved : goal.loop-count-preserved
-loop-count-preserved c = root_turn_step c.loop-count.invariant c.first_for-j.ensures c.if-count-j.false _ _ c.supporter-end.ensures.0 _ _ c.if-limit-end.false c.supporter-end.auto.line (c.supporter-end.auto.indexes, (c.supporter-end.auto.parents, (c.supporter-end.auto.kinds, (c.supporter-end.auto.marks, c.supporter-end.auto.marks)))) c.or_undefeated-undefeated.ensures
+pub returns : goal.returns
+returns c = root_turn_end c.loop-index.invariant c.loop-index-test.false

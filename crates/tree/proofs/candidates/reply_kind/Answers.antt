@@ -8,29 +8,29 @@ pub attacks-requires : goal.attacks-requires
 attacks-requires c = c.requires.asked.prepared.laid
 
 pub returns-then-not-attacks : goal.returns-then-not-attacks
-returns-then-not-attacks c = λ w. asking_apart c.requires.asked c.args.j c.requires.j_lt_count w
-    (subst (AttacksBy c.args.exclusions.now c.args.rows.now _ _) c.if-not-attacks.true c.attacks.ensures)
+returns-then-not-attacks c = λ w. asking_apart c.requires.asked c.args.j c.requires.j_in_list w
+    (subst (AttacksBy c.args.framework.now.exclusions.now c.args.framework.now.rows.now _ _) c.if-not-attacks.true c.attacks.ensures)
 
 pub contradictory-requires : goal.contradictory-requires
 contradictory-requires c = c.requires.asked.prepared.laid
 
 pub returns-then-contradictory : goal.returns-then-contradictory
-returns-then-contradictory c = λ w. asking_discordant c.requires.asked c.args.j c.requires.j_lt_count w c.mask_of-mask.result c.mask_of-mask.ensures c.contradictory.result c.contradictory.ensures
+returns-then-contradictory c = λ w. asking_discordant c.requires.asked c.args.j c.requires.j_in_list w c.mask_of-mask.result c.mask_of-mask.ensures c.contradictory.result c.contradictory.ensures
     c.if-contradictory.true
 
 pub returns-then-used : goal.returns-then-used
-returns-then-used c = λ w. asking_used c.requires.asked c.args.j c.requires.j_lt_count w c.mask_of-mask.result c.mask_of-mask.ensures c.contradictory.result c.contradictory.ensures c.used.result
+returns-then-used c = λ w. asking_used c.requires.asked c.args.j c.requires.j_in_list w c.mask_of-mask.result c.mask_of-mask.ensures c.contradictory.result c.contradictory.ensures c.used.result
     c.used.ensures c.if-used.true
 
 pub kind-kind-requires : goal.kind-kind-requires
-kind-kind-requires c = let x = asking_x c.requires.asked c.args.j c.requires.j_lt_count in
-    let y = asking_y c.requires.asked c.args.j c.requires.j_lt_count in
+kind-kind-requires c = let x = asking_x c.requires.asked c.args.j c.requires.j_in_list in
+    let y = asking_y c.requires.asked c.args.j c.requires.j_in_list in
     record {
-      numbers = asking_numbers c.requires.asked c.args.j c.requires.j_lt_count;
+      numbers = asking_numbers c.requires.asked c.args.j c.requires.j_in_list;
       x_bound = (x, y);
     }
 
 pub returns : goal.returns
-returns c = λ w. asking_free c.requires.asked c.args.j c.requires.j_lt_count w c.mask_of-mask.result c.mask_of-mask.ensures c.contradictory.result c.contradictory.ensures c.used.result
+returns c = λ w. asking_free c.requires.asked c.args.j c.requires.j_in_list w c.mask_of-mask.result c.mask_of-mask.ensures c.contradictory.result c.contradictory.ensures c.used.result
     c.used.ensures c.if-contradictory.false c.if-used.false c.kind-kind.result c.follow.result
-    (c.kind-kind.ensures w.program w.conclusions c.args.rows.now w.made) c.follow.ensures
+    (c.kind-kind.ensures w.program w.conclusions c.args.framework.now.rows.now w.made) c.follow.ensures

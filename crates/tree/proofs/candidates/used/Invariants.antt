@@ -2,7 +2,7 @@
 use mathlib.Core.Path.{◌≡◌}
 use mathlib.Core.Bool.{Bool}
 use mathlib.Core.List.{List}
-use Prim.Native.Nat.{ℕ, ◌≤◌}
+use Prim.Native.Nat.{ℕ}
 use Rattle.lists.specs.Lists.{any}
 use Rattle.literals.specs.Sets.{within}
 use Rattle.argument.specs.Argument.{mask_of}
@@ -14,7 +14,4 @@ abbrev pub usedTo : List ℕ → ℕ → ℕ → Bool
 usedTo line mask i = any (λ x. within mask (mask_of x)) (line_of line i)
 
 abbrev pub invariant-loop-i : goal.invariant-loop-i
-invariant-loop-i l = (l.i ≤ l.depth) × (usedTo l.line l.mask l.depth ≡ usedTo l.line l.mask l.i)
-
-abbrev pub decreases-loop-i : goal.decreases-loop-i
-decreases-loop-i l = l.i
+invariant-loop-i l = usedTo l.line l.mask l.depth ≡ usedTo l.line l.mask l.i
