@@ -16,10 +16,11 @@ use Rattle.literals.proofs.Tests.{and_left, and_right}
 use Rattle.program.specs.Program.{Kind, Rule, next_bit, defeasibles, defeasibles_from, bit_of}
 use Rattle.program.specs.Limits.{DefeasibleAt, PairOf, Limits}
 use Rattle.program.proofs.Fillings.{bit_of_next}
-use Rattle.layout.specs.declared.Verdict.{Verdict}
-use Rattle.layout.specs.declared.Verdict.TheVariants.{Accepted, Refused}
 use Rattle.layout.specs.Layout.{number_at, size_of, atoms_of, rules_of, pair_count_of, part_of, kind_byte, head_byte, body_bytes, first_of, second_of}
-use Rattle.layout.specs.Causes.{refuse, and_then, all_below, ascending, bad_size, bad_kind, bad_literal, bad_body, bad_empty, bad_seventeenth, bad_length, bad_counts, bad_directory, bad_pairs, bad_pair, not_defeasible, part_verdict, rule_verdict, count_kind, rules_verdict, pair_verdict, pairs_verdict, parts_follow, verdict}
+use Rattle.std.specs.Prelude.{Ok, Err}
+use Rattle.layout.specs.declared.Cause.{Cause}
+use Rattle.layout.specs.declared.Cause.TheVariants.{ImageLength, Header, Directory, RuleLength, RuleKind, LiteralRange, BodyOrder, DefeasibleWithoutBody, TooManyDefeasible, LastPartLength, PairNames}
+use Rattle.layout.specs.Causes.{Verdict, accepted, refuse, and_then, all_below, ascending, bad_size, bad_kind, bad_literal, bad_body, bad_empty, bad_seventeenth, bad_length, bad_counts, bad_directory, bad_pairs, bad_pair, not_defeasible, part_verdict, rule_verdict, count_kind, rules_verdict, pair_verdict, pairs_verdict, parts_follow, verdict}
 use Rattle.layout.specs.Reading.{rule_in, rules_in, program_in}
 use Rattle.layout.specs.Inside.Steps.{PartAt}
 use Rattle.part.proofs.Bytes.{below_here, below_after}
@@ -29,17 +30,17 @@ use Rattle.image.proofs.EachPair.{pairs_next}
 use Rattle.image.proofs.Readings.{rules_length, rules_at, rules_found, pairs_found}
 
 -- ---- what accepts, test by test
-pub then_left : (v w : Verdict) → and_then v w ≡ Accepted → v ≡ Accepted
-then_left Accepted w e = refl
-then_left (Refused n p) w e = e
+pub then_left : (v w : Verdict) → and_then v w ≡ accepted → v ≡ accepted
+then_left (Ok a) w e = refl
+then_left (Err r) w e = e
 
-pub then_right : (v w : Verdict) → and_then v w ≡ Accepted → w ≡ Accepted
-then_right Accepted w e = e
-then_right (Refused n p) w e = absurd (let z : ◌≡◌ {A = ℕ} 0 1 = cc in omega arith)
+pub then_right : (v w : Verdict) → and_then v w ≡ accepted → w ≡ accepted
+then_right (Ok a) w e = e
+then_right (Err r) w e = cc
 
-pub refuse_not : (b : Bool) (n p : ℕ) → refuse b n p ≡ Accepted → b ≡ false
-refuse_not true n p e = absurd (let z : ◌≡◌ {A = ℕ} 0 1 = cc in omega arith)
-refuse_not false n p e = refl
+pub refuse_not : (b : Bool) (c : Cause) (p : ℕ) → refuse b c p ≡ accepted → b ≡ false
+refuse_not true c p e = cc
+refuse_not false c p e = refl
 
 -- ---- a rule's part
 pub record PartSound (part : List ℕ) (atoms before : ℕ) : Type 0 where
@@ -49,18 +50,18 @@ pub record PartSound (part : List ℕ) (atoms before : ℕ) : Type 0 where
   pub body : ascending (body_bytes part) ≡ true
   pub room : eqb (kind_byte part) 1 ≡ true → before < 16
 
-pub part_sound : (part : List ℕ) (atoms before place : ℕ) → part_verdict part atoms before place ≡ Accepted → PartSound part atoms before
+pub part_sound : (part : List ℕ) (atoms before place : ℕ) → part_verdict part atoms before place ≡ accepted → PartSound part atoms before
 unfolding part_verdict
 part_sound part atoms before place e =
-    let four = refuse_not (bad_size part) 4 place (then_left (refuse (bad_size part) 4 place) _ e) in
-    let e5 = then_right (refuse (bad_size part) 4 place) _ e in
-    let five = refuse_not (bad_kind part) 5 place (then_left (refuse (bad_kind part) 5 place) _ e5) in
-    let e6 = then_right (refuse (bad_kind part) 5 place) _ e5 in
-    let six = refuse_not (bad_literal atoms part) 6 place (then_left (refuse (bad_literal atoms part) 6 place) _ e6) in
-    let e7 = then_right (refuse (bad_literal atoms part) 6 place) _ e6 in
-    let seven = refuse_not (bad_body part) 7 place (then_left (refuse (bad_body part) 7 place) _ e7) in
-    let e8 = then_right (refuse (bad_body part) 7 place) _ e7 in
-    let nine = refuse_not (bad_seventeenth before part) 9 place (then_right (refuse (bad_empty part) 8 place) _ e8) in
+    let four = refuse_not (bad_size part) RuleLength place (then_left (refuse (bad_size part) RuleLength place) _ e) in
+    let e5 = then_right (refuse (bad_size part) RuleLength place) _ e in
+    let five = refuse_not (bad_kind part) RuleKind place (then_left (refuse (bad_kind part) RuleKind place) _ e5) in
+    let e6 = then_right (refuse (bad_kind part) RuleKind place) _ e5 in
+    let six = refuse_not (bad_literal atoms part) LiteralRange place (then_left (refuse (bad_literal atoms part) LiteralRange place) _ e6) in
+    let e7 = then_right (refuse (bad_literal atoms part) LiteralRange place) _ e6 in
+    let seven = refuse_not (bad_body part) BodyOrder place (then_left (refuse (bad_body part) BodyOrder place) _ e7) in
+    let e8 = then_right (refuse (bad_body part) BodyOrder place) _ e7 in
+    let nine = refuse_not (bad_seventeenth before part) TooManyDefeasible place (then_right (refuse (bad_empty part) DefeasibleWithoutBody place) _ e8) in
     record {
       long = ltb-false (length part) 2 (neither_left (ltb (length part) 2) _ four);
       kind_few = ltb-false 1 (kind_byte part) five;
@@ -77,20 +78,20 @@ pub record Sound (s : List ℕ) : Type 0 where
   pub zeros : number_at s 6 ≡ 0
   pub follow : parts_follow s (12 + 4 * rules_of s) 0 (rules_of s + 1) ≡ true
   pub parts : (i : ℕ) → i ≤ rules_of s → PartAt s i
-  pub rules_accepted : rules_verdict s 0 0 (rules_of s) ≡ Accepted
+  pub rules_accepted : rules_verdict s 0 0 (rules_of s) ≡ accepted
   pub pairs_size : size_of s (rules_of s) ≡ 2 * pair_count_of s
-  pub pairs_accepted : pairs_verdict s 0 (pair_count_of s) ≡ Accepted
+  pub pairs_accepted : pairs_verdict s 0 (pair_count_of s) ≡ accepted
 
-pub accepted_sound : (s : List ℕ) → verdict s ≡ Accepted → Sound s
+pub accepted_sound : (s : List ℕ) → verdict s ≡ accepted → Sound s
 unfolding verdict
 accepted_sound s e =
-    let e2 = then_right (refuse (bad_length s) 1 0) _ e in
-    let two = refuse_not (bad_counts s) 2 0 (then_left (refuse (bad_counts s) 2 0) _ e2) in
+    let e2 = then_right (refuse (bad_length s) ImageLength 0) _ e in
+    let two = refuse_not (bad_counts s) Header 0 (then_left (refuse (bad_counts s) Header 0) _ e2) in
     let more = neither_right (ltb 64 (atoms_of s)) _ two in
     let last = neither_right (ltb 96 (rules_of s)) _ more in
-    let e3 = then_right (refuse (bad_counts s) 2 0) _ e2 in
-    let three = refuse_not (bad_directory s) 3 0 (then_left (refuse (bad_directory s) 3 0) _ e3) in
-    let e4 = then_right (refuse (bad_directory s) 3 0) _ e3 in
+    let e3 = then_right (refuse (bad_counts s) Header 0) _ e2 in
+    let three = refuse_not (bad_directory s) Directory 0 (then_left (refuse (bad_directory s) Directory 0) _ e3) in
+    let e4 = then_right (refuse (bad_directory s) Directory 0) _ e3 in
     let e11 = then_right (rules_verdict s 0 0 (rules_of s)) _ e4 in
     record {
       few_atoms = ltb-false 64 (atoms_of s) (neither_left (ltb 64 (atoms_of s)) _ two);
@@ -100,8 +101,8 @@ accepted_sound s e =
       follow = not-false _ (neither_right (ltb (length s) (12 + 4 * rules_of s)) _ three);
       parts = directory_part s three;
       rules_accepted = then_left (rules_verdict s 0 0 (rules_of s)) _ e4;
-      pairs_size = eqb-true (size_of s (rules_of s)) (2 * pair_count_of s) (not-false _ (refuse_not (bad_pairs s) 11 0 (then_left (refuse (bad_pairs s) 11 0) _ e11)));
-      pairs_accepted = then_right (refuse (bad_pairs s) 11 0) _ e11;
+      pairs_size = eqb-true (size_of s (rules_of s)) (2 * pair_count_of s) (not-false _ (refuse_not (bad_pairs s) LastPartLength 0 (then_left (refuse (bad_pairs s) LastPartLength 0) _ e11)));
+      pairs_accepted = then_right (refuse (bad_pairs s) LastPartLength 0) _ e11;
     }
 
 module _ (s : List ℕ) (sound : Sound s) where
@@ -109,7 +110,7 @@ module _ (s : List ℕ) (sound : Sound s) where
   rules = rules_in s 0 (rules_of s)
 
   -- ---- the rules, one by one: the count of defeasible ones before rule j is its bit
-  rules_onward : (j : ℕ) → j ≤ rules_of s → rules_verdict s (bit_of rules j) j (rules_of s - j) ≡ Accepted
+  rules_onward : (j : ℕ) → j ≤ rules_of s → rules_verdict s (bit_of rules j) j (rules_of s - j) ≡ accepted
   unfolding defeasibles_from
   rules_onward zero h = ap (λ (n : ℕ). rules_verdict s 0 0 n) (sub-zero (rules_of s)) ∙ sound.rules_accepted
   rules_onward (suc j) h =
@@ -146,7 +147,7 @@ module _ (s : List ℕ) (sound : Sound s) where
       go false e f = omega (arith, rule_next j h ∙ ap (λ (k : Kind). next_bit k (bit_of rules j)) (kind_strict (part_of s j) e))
 
   -- ---- the pairs, one by one
-  pairs_onward : (j : ℕ) → j ≤ pair_count_of s → pairs_verdict s j (pair_count_of s - j) ≡ Accepted
+  pairs_onward : (j : ℕ) → j ≤ pair_count_of s → pairs_verdict s j (pair_count_of s - j) ≡ accepted
   pairs_onward zero h = ap (λ (n : ℕ). pairs_verdict s 0 n) (sub-zero (pair_count_of s)) ∙ sound.pairs_accepted
   pairs_onward (suc j) h =
       let step = pairs_next s j (pair_count_of s) _ (omega arith) refl in
@@ -156,7 +157,7 @@ module _ (s : List ℕ) (sound : Sound s) where
   unfolding pair_verdict
   pair_sound j h =
       let step = pairs_next s j (pair_count_of s) _ h refl in
-      refuse_not (bad_pair s j) 12 j (then_left (refuse (bad_pair s j) 12 j) _ (then_left (pair_verdict s j) _ (sym step ∙ pairs_onward j (omega arith))))
+      refuse_not (bad_pair s j) PairNames j (then_left (refuse (bad_pair s j) PairNames j) _ (then_left (pair_verdict s j) _ (sym step ∙ pairs_onward j (omega arith))))
 
   named_sound : (a : ℕ) → not_defeasible s a ≡ false → DefeasibleAt rules a
   named_sound a e =
@@ -211,9 +212,9 @@ module _ (s : List ℕ) (sound : Sound s) where
       all_taken = ap (λ (n : ℕ). take n rules) (sym (rules_length s 0 (rules_of s))) ∙ take-length rules
 
 -- every accepted image holds a program within the limits
-pub accepted_limits : (s : List ℕ) → verdict s ≡ Accepted → Limits (program_in s)
+pub accepted_limits : (s : List ℕ) → verdict s ≡ accepted → Limits (program_in s)
 accepted_limits s e = sound_limits s (accepted_sound s e)
 
 -- and each of its parts can be looked up
-pub accepted_part : (s : List ℕ) → verdict s ≡ Accepted → (i : ℕ) → i ≤ rules_of s → PartAt s i
+pub accepted_part : (s : List ℕ) → verdict s ≡ accepted → (i : ℕ) → i ≤ rules_of s → PartAt s i
 accepted_part s e = (accepted_sound s e).parts

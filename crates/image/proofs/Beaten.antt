@@ -21,10 +21,11 @@ use Rattle.program.specs.Inside.Filling.{RowsTo, listed_from, ListedIn}
 use Rattle.program.proofs.Numbers.{bit_of_same, bit_of_below, defeasible_found}
 use Rattle.program.proofs.Fillings.{rows_same}
 use Rattle.layout.specs.declared.cursor.Cursor.{Cursor}
-use Rattle.layout.specs.declared.cursor.Pair.TheVariants as pair
-use Rattle.layout.specs.declared.Verdict.TheVariants.{Accepted, Refused}
+use Rattle.layout.specs.declared.Refusal.{Refusal}
+use Rattle.std.specs.Prelude.{Some, Err}
 use Rattle.layout.specs.Layout.{rules_of, pair_count_of, size_of, part_of, kind_byte, first_of, second_of}
-use Rattle.layout.specs.Causes.{refuse, not_defeasible, bad_pair, bad_order, pair_code, pair_verdict, pairs_verdict}
+use Rattle.layout.specs.declared.Cause.TheVariants.{PairNames}
+use Rattle.layout.specs.Causes.{accepted, refuse, not_defeasible, bad_pair, bad_order, pair_code, pair_verdict, pairs_verdict}
 use Rattle.layout.specs.Reading.{pairs_in, program_in}
 use Rattle.layout.specs.Inside.Steps.{pair_from, Located}
 use Rattle.layout.proofs.Directory.{neither_left, neither_right}
@@ -109,7 +110,7 @@ module _ (s bytes : List ℕ) (rules count : ℕ) (base : Base s bytes rules cou
       pub next_at : next.at ≡ cursor.at + 2
       pub less : cursor.at + 2 ≤ length bytes
 
-    pub taken : (x y a b : ℕ) (next : Cursor) → length bytes ≡ 2 * count → pair_from bytes cursor.at ≡ pair.Read x y next → a ≡ x → b ≡ y → Taken a b next
+    pub taken : (x y a b : ℕ) (next : Cursor) → length bytes ≡ 2 * count → pair_from bytes cursor.at ≡ Some (x, y, next) → a ≡ x → b ≡ y → Taken a b next
     taken x y a b next size e ea eb =
         let q = pair_is bytes cursor.at x y next e in
         let at = w.here in
@@ -134,13 +135,13 @@ module _ (s bytes : List ℕ) (rules count : ℕ) (base : Base s bytes rules cou
           ∙ ap₂ (λ (x y : ℕ). pair_tested t (rules_of s) x y least j) first second
           ∙ pair_by s j (absent_in t (rules_of s) (first_of s j)) (absent_in t (rules_of s) (second_of s j)) (eqb (first_of s j) (second_of s j)) (ltb (pair_code s j) least) (sym (absent_is (first_of s j))) (sym (absent_is (second_of s j))) refl w.order
 
-      pub pairing_refused : (n p : ℕ) → pair_verdict s j ≡ Refused n p → pairs_verdict s 0 (pair_count_of s) ≡ Refused n p
-      pairing_refused n p e = w.verdict ∙ pairs_next s j (pair_count_of s) (Refused n p) now.more e
+      pub pairing_refused : (r : Refusal) → pair_verdict s j ≡ Err r → pairs_verdict s 0 (pair_count_of s) ≡ Err r
+      pairing_refused r e = w.verdict ∙ pairs_next s j (pair_count_of s) (Err r) now.more e
 
-      module _ (e : pair_verdict s j ≡ Accepted) where
+      module _ (e : pair_verdict s j ≡ accepted) where
         fine : bad_pair s j ≡ false
         unfolding pair_verdict
-        fine = refuse_not (bad_pair s j) 12 j (then_left (refuse (bad_pair s j) 12 j) _ e)
+        fine = refuse_not (bad_pair s j) PairNames j (then_left (refuse (bad_pair s j) PairNames j) _ e)
 
         named : (x : ℕ) → not_defeasible s x ≡ false → DefeasibleAt (all_rules s) x
         named x q =
@@ -203,7 +204,7 @@ module _ (s bytes : List ℕ) (rules count : ℕ) (base : Base s bytes rules cou
             inside = let m = now.more in omega arith;
             long = ap (λ (l : List ℕ). length l) is ∙ simp length-set w.long;
             rows = rows_same (all_rules s) (rules_of s) t u base.few base.bits (λ x h. ap (λ (l : List ℕ). get_or l x 0) is ∙ get_or-set_other t (400 + bit_of (all_rules s) a) x mask 0 (λ z. omega arith)) w.rows;
-            verdict = w.verdict ∙ pairs_next s j (pair_count_of s) Accepted now.more e;
+            verdict = w.verdict ∙ pairs_next s j (pair_count_of s) accepted now.more e;
             order =
                 ap (bad_order s) (add-one j)
                 ∙ sym (leb-suc-suc (pair_code s (suc j)) (pair_code s j))
@@ -211,7 +212,7 @@ module _ (s bytes : List ℕ) (rules count : ℕ) (base : Base s bytes rules cou
             left = λ i d. w.left i d ∙ rest i d (ℕ_discrete i a) ∙ ap (λ (l : List ℕ). listed_from (all_rules s) i (beaten_at l (bit_of (all_rules s) i)) (pairs_in s (j + 1) (pair_count_of s - (j + 1)))) (sym is);
           }
 
-    pub pairing_done : pair_count_of s ≤ j → (pairs_verdict s 0 (pair_count_of s) ≡ Accepted) × ListedIn (program_in s) t
+    pub pairing_done : pair_count_of s ≤ j → (pairs_verdict s 0 (pair_count_of s) ≡ accepted) × ListedIn (program_in s) t
     unfolding program_in
     pairing_done h = (
       w.verdict ∙ pairs_end s j (pair_count_of s) h,

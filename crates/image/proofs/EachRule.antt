@@ -8,16 +8,15 @@ use native.Mathlib.Omega.{arith}
 use lib.Dec.{eqb}
 use Rattle.lists.specs.Lists.{choose}
 use Rattle.program.specs.Program.{strict, defeasible, next_bit}
-use Rattle.layout.specs.declared.Verdict.{Verdict}
-use Rattle.layout.specs.declared.Verdict.TheVariants.{Accepted}
 use Rattle.layout.specs.Layout.{atoms_of, part_of, kind_byte}
 use Rattle.layout.specs.Reading.{rule_in}
-use Rattle.layout.specs.Causes.{refuse, and_then, bad_repeat, part_verdict, rule_verdict, count_kind, rules_verdict}
+use Rattle.layout.specs.declared.Cause.TheVariants.{RepeatedRule}
+use Rattle.layout.specs.Causes.{Verdict, accepted, refuse, and_then, bad_repeat, part_verdict, rule_verdict, count_kind, rules_verdict}
 
 module _ (s : List ℕ) (before i : ℕ) where
-  pub rule_by : (v : Verdict) (b : Bool) → part_verdict (part_of s i) (atoms_of s) before i ≡ v → bad_repeat s i ≡ b → rule_verdict s before i ≡ and_then v (refuse b 10 i)
+  pub rule_by : (v : Verdict) (b : Bool) → part_verdict (part_of s i) (atoms_of s) before i ≡ v → bad_repeat s i ≡ b → rule_verdict s before i ≡ and_then v (refuse b RepeatedRule i)
   unfolding rule_verdict
-  rule_by v b p q = ap₂ (λ (x : Verdict) (y : Bool). and_then x (refuse y 10 i)) p q
+  rule_by v b p q = ap₂ (λ (x : Verdict) (y : Bool). and_then x (refuse y RepeatedRule i)) p q
 
   -- the rules from rule i to rule n
   module _ (n : ℕ) (more : i < n) where
@@ -27,7 +26,7 @@ module _ (s : List ℕ) (before i : ℕ) where
         let z : n - i ≡ suc (n - (i + 1)) = omega arith in
         rw (z, add-one) (ap (λ (w : Verdict). and_then w (rules_verdict s (count_kind (kind_byte (part_of s i)) before) (suc i) (n - suc i))) e)
 
-  pub rules_end : (n : ℕ) → n ≤ i → rules_verdict s before i (n - i) ≡ Accepted
+  pub rules_end : (n : ℕ) → n ≤ i → rules_verdict s before i (n - i) ≡ accepted
   unfolding rules_verdict
   rules_end n h = let z : n - i ≡ 0 = omega arith in rw z refl
 

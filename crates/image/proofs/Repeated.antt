@@ -10,7 +10,7 @@ use native.Mathlib.Omega.{arith}
 use lib.ListN.{length, get_or, set, length-set}
 use lib.Seq.{get_or-set_same, get_or-set_other}
 use lib.Dec.{eqb}
-use borrow.Author.Tests.{eqb-true, eqb-false, eq-eqb, ne_eqb}
+use borrow.Author.Tests.{eqb-false, eq-eqb, ne_eqb}
 use Rattle.lists.specs.Lists.{choose}
 use Rattle.literals.specs.Sets.{insert_all}
 use Rattle.literals.proofs.Tests.{or_left, or_right}
@@ -28,17 +28,6 @@ use Rattle.image.specs.Inside.Passes.{LastWith, Linked, linked_with, RowIs, Same
 module _ (t : List ℕ) (j : ℕ) (d : Bool) (head set : ℕ) where
   pub other_body : eqb (body_at t j) set ≡ false → SameIs false t j d head set
   other_body h r = eqb-false _ _ h r.body_same
-
-  -- by the kind, where head and body are the same
-  pub same_kind : head_at t j ≡ head → eqb (body_at t j) set ≡ true → (r : Bool) → (r ≡ true → not (eqb (need_at t j) 0) ≡ d) → (r ≡ false → not (eqb (need_at t j) 0) ≡ d → ⊥) → SameIs r t j d head set
-  same_kind h b true f g = record { head_same = h; body_same = eqb-true _ _ b; kind_same = f refl }
-  same_kind h b false f g = λ r. g refl r.kind_same
-
-pub kind_on : (b d : Bool) → d ≡ true → (not b ≡ true → not b ≡ d) × (not b ≡ false → not b ≡ d → ⊥)
-kind_on b d e = (λ h. h ∙ sym e, λ h k. false≢true (sym h ∙ k ∙ e))
-
-pub kind_off : (b d : Bool) → d ≡ false → (b ≡ true → not b ≡ d) × (b ≡ false → not b ≡ d → ⊥)
-kind_off b d e = (λ h. ap not h ∙ sym e, λ h k. false≢true (sym e ∙ sym k ∙ ap not h))
 
 -- ---- from link to link: no row from `after` on is the same
 pub record Missed (t : List ℕ) (after n : ℕ) (d : Bool) (head set : ℕ) : Type 0 where

@@ -6,14 +6,14 @@ use Prim.Native.Nat.{ℕ, ◌≤◌}
 use native.Mathlib.Omega.{arith}
 use lib.Dec.{ltb}
 use borrow.Author.Tests.{ltb-false}
-use Rattle.layout.specs.declared.Verdict.{Verdict}
-use Rattle.layout.specs.declared.Verdict.TheVariants.{Accepted, Refused}
 use Rattle.layout.specs.declared.cursor.Cursor.{Cursor}
 use Rattle.layout.specs.declared.header.Counts.{Counts}
-use Rattle.layout.specs.declared.header.Header.TheVariants as header
+use Rattle.std.specs.Prelude.{Result, Ok, Err}
+use Rattle.layout.specs.declared.Refusal.{Refusal}
 use Rattle.layout.specs.Layout.{atoms_of, rules_of, pair_count_of}
-use Rattle.layout.specs.Causes.{refuse, and_then, bad_length, bad_counts, bad_directory, rules_verdict, bad_pairs, pairs_verdict, verdict}
-use Rattle.layout.specs.Inside.Steps.{cursor_at, header_by, header_of}
+use Rattle.layout.specs.declared.Cause.TheVariants.{ImageLength, Header, Directory, LastPartLength}
+use Rattle.layout.specs.Causes.{Verdict, accepted, refuse, and_then, bad_length, bad_counts, bad_directory, rules_verdict, bad_pairs, pairs_verdict, verdict}
+use Rattle.layout.specs.Inside.Steps.{cursor_at, header_read, header_of}
 use Rattle.layout.proofs.Directory.{neither_left, neither_right}
 
 -- what the header says where it is read
@@ -30,26 +30,26 @@ pub record Known (s : List ℕ) (c : Counts) (next : Cursor) : Type 0 where
 
 -- what follows the header
 abbrev rest : (three : Bool) → Verdict → Verdict → Verdict
-rest three rules pairs = and_then (refuse three 3 0) (and_then rules pairs)
+rest three rules pairs = and_then (refuse three Directory 0) (and_then rules pairs)
 
 module _ (s : List ℕ) where
-  by_header : (one two : Bool) → bad_length s ≡ one → bad_counts s ≡ two → verdict s ≡ and_then (refuse one 1 0) (and_then (refuse two 2 0) (rest (bad_directory s) (rules_verdict s 0 0 (rules_of s)) (and_then (refuse (bad_pairs s) 11 0) (pairs_verdict s 0 (pair_count_of s)))))
+  by_header : (one two : Bool) → bad_length s ≡ one → bad_counts s ≡ two → verdict s ≡ and_then (refuse one ImageLength 0) (and_then (refuse two Header 0) (rest (bad_directory s) (rules_verdict s 0 0 (rules_of s)) (and_then (refuse (bad_pairs s) LastPartLength 0) (pairs_verdict s 0 (pair_count_of s)))))
   unfolding verdict
-  by_header one two e f =
-      let tail = rest (bad_directory s) (rules_verdict s 0 0 (rules_of s)) (and_then (refuse (bad_pairs s) 11 0) (pairs_verdict s 0 (pair_count_of s))) in
-      ap (λ (b : Bool). and_then (refuse b 1 0) (and_then (refuse (bad_counts s) 2 0) tail)) e
-      ∙ ap (λ (b : Bool). and_then (refuse one 1 0) (and_then (refuse b 2 0) tail)) f
+  by_header one two e f = rw (e, f) refl
 
-  pub header_refuses : (n p : ℕ) → header_of s ≡ header.Refused n p → Refused n p ≡ verdict s
+  pub header_refuses : (r : Refusal) → header_of s ≡ Err r → verdict s ≡ Err r
   unfolding header_of
-  header_refuses n p e = go (bad_length s) (bad_counts s) refl refl e
+  header_refuses r e = go (bad_length s) (bad_counts s) refl refl e
     where
-      go : (one two : Bool) → bad_length s ≡ one → bad_counts s ≡ two → header_by (and_then (refuse one 1 0) (refuse two 2 0)) s ≡ header.Refused n p → Refused n p ≡ verdict s
-      go true two a b q = let x : n ≡ 1 = cc in let y : p ≡ 0 = cc in rw (x, y) (sym (by_header true two a b))
-      go false true a b q = let x : n ≡ 2 = cc in let y : p ≡ 0 = cc in rw (x, y) (sym (by_header false true a b))
-      go false false a b q = absurd (let z : ◌≡◌ {A = ℕ} 0 1 = cc in omega arith)
+      same : (q : Refusal) → ◌≡◌ {A = Result (Counts × Cursor) Refusal} (Err q) (Err r) → ◌≡◌ {A = Verdict} (Err q) (Err r)
+      same q e = let x : q ≡ r = cc in rw x refl
 
-  pub header_known : (c : Counts) (next : Cursor) → header_of s ≡ header.Read c next → Known s c next
+      go : (one two : Bool) → bad_length s ≡ one → bad_counts s ≡ two → and_then (refuse one ImageLength 0) (and_then (refuse two Header 0) (Ok (header_read s))) ≡ Err r → verdict s ≡ Err r
+      go true two a b q = by_header true two a b ∙ same _ q
+      go false true a b q = by_header false true a b ∙ same _ q
+      go false false a b q = cc
+
+  pub header_known : (c : Counts) (next : Cursor) → header_of s ≡ Ok (c, next) → Known s c next
   unfolding header_of
   header_known c next e = go (bad_length s) (bad_counts s) refl refl e
     where
@@ -74,26 +74,26 @@ module _ (s : List ℕ) where
             counts_fine = b;
           }
 
-      go : (one two : Bool) → bad_length s ≡ one → bad_counts s ≡ two → header_by (and_then (refuse one 1 0) (refuse two 2 0)) s ≡ header.Read c next → Known s c next
-      go true two a b q = absurd (let z : ◌≡◌ {A = ℕ} 0 1 = cc in omega arith)
-      go false true a b q = absurd (let z : ◌≡◌ {A = ℕ} 0 1 = cc in omega arith)
-      go false false a b q = known c next (cc) (cc) a b
+      go : (one two : Bool) → bad_length s ≡ one → bad_counts s ≡ two → and_then (refuse one ImageLength 0) (and_then (refuse two Header 0) (Ok (header_read s))) ≡ Ok (c, next) → Known s c next
+      go true two a b q = cc
+      go false true a b q = cc
+      go false false a b q = let k : header_read s ≡ (c, next) = cc in known c next (ap (λ (h : Counts × Cursor). h.0) k) (ap (λ (h : Counts × Cursor). h.1) k) a b
 
   -- after a header that is read: 3 and the rules, then 11 and the pairs
   module _ (c : Counts) (next : Cursor) (k : Known s c next) where
-    whole : verdict s ≡ rest (bad_directory s) (rules_verdict s 0 0 (rules_of s)) (and_then (refuse (bad_pairs s) 11 0) (pairs_verdict s 0 (pair_count_of s)))
+    whole : verdict s ≡ rest (bad_directory s) (rules_verdict s 0 0 (rules_of s)) (and_then (refuse (bad_pairs s) LastPartLength 0) (pairs_verdict s 0 (pair_count_of s)))
     whole = by_header false false k.length_fine k.counts_fine
 
-    pub rules_refuse : (n p : ℕ) → and_then (refuse (bad_directory s) 3 0) (rules_verdict s 0 0 (rules_of s)) ≡ Refused n p → verdict s ≡ Refused n p
-    rules_refuse n p e = whole ∙ cut (bad_directory s) (rules_verdict s 0 0 (rules_of s)) _ e
+    pub rules_refuse : (r : Refusal) → and_then (refuse (bad_directory s) Directory 0) (rules_verdict s 0 0 (rules_of s)) ≡ Err r → verdict s ≡ Err r
+    rules_refuse r e = whole ∙ cut (bad_directory s) (rules_verdict s 0 0 (rules_of s)) _ e
       where
-        cut : (b : Bool) (v w : Verdict) → and_then (refuse b 3 0) v ≡ Refused n p → and_then (refuse b 3 0) (and_then v w) ≡ Refused n p
+        cut : (b : Bool) (v w : Verdict) → and_then (refuse b Directory 0) v ≡ Err r → and_then (refuse b Directory 0) (and_then v w) ≡ Err r
         cut true v w q = q
-        cut false Accepted w q = absurd (let z : ◌≡◌ {A = ℕ} 0 1 = cc in omega arith)
-        cut false (Refused m r) w q = q
+        cut false (Ok a) w q = cc
+        cut false (Err m) w q = q
 
-    pub rules_accept : bad_directory s ≡ false → rules_verdict s 0 0 (rules_of s) ≡ Accepted → verdict s ≡ and_then (refuse (bad_pairs s) 11 0) (pairs_verdict s 0 (pair_count_of s))
+    pub rules_accept : bad_directory s ≡ false → rules_verdict s 0 0 (rules_of s) ≡ accepted → verdict s ≡ and_then (refuse (bad_pairs s) LastPartLength 0) (pairs_verdict s 0 (pair_count_of s))
     rules_accept e f =
         whole
-        ∙ ap (λ (b : Bool). rest b (rules_verdict s 0 0 (rules_of s)) (and_then (refuse (bad_pairs s) 11 0) (pairs_verdict s 0 (pair_count_of s)))) e
-        ∙ ap (λ (v : Verdict). rest false v (and_then (refuse (bad_pairs s) 11 0) (pairs_verdict s 0 (pair_count_of s)))) f
+        ∙ ap (λ (b : Bool). rest b (rules_verdict s 0 0 (rules_of s)) (and_then (refuse (bad_pairs s) LastPartLength 0) (pairs_verdict s 0 (pair_count_of s)))) e
+        ∙ ap (λ (v : Verdict). rest false v (and_then (refuse (bad_pairs s) LastPartLength 0) (pairs_verdict s 0 (pair_count_of s)))) f

@@ -5,16 +5,16 @@ ghost use Rattle.literals.specs.Sets.{union};
 ghost use Rattle.program.specs.Inside.Table.{need_at, beaten_at};
 ghost use Rattle.program.specs.Inside.Store.{with_beaten};
 ghost use Rattle.program.specs.Inside.Filling.{ListedIn};
+ghost use Rattle.layout.specs.declared.Cause.TheVariants.{LastPartLength};
 ghost use Rattle.layout.specs.Layout.{rules_of, pair_count_of};
-ghost use Rattle.layout.specs.Causes.{refuse, and_then, bad_pairs, pairs_verdict};
+ghost use Rattle.layout.specs.Causes.{accepted, refuse, and_then, bad_pairs, pairs_verdict};
 ghost use Rattle.layout.specs.Reading.{program_in};
 ghost use Rattle.image.specs.Inside.Passes.{absent_in, pair_tested, AllRead};
 
-use layout::Verdict;
-use layout::cursor::{Cursor, Pair};
+use layout::cursor::Cursor;
 use layout::header::Counts;
+use layout::{Cause, Refusal};
 use literals::masks;
-use part::wide;
 use program::RuleTable;
 
 // The rule with this number is absent or not defeasible.
@@ -36,35 +36,17 @@ fn examine(
     second: u64,
     least: u64,
     place: u32,
-) -> Verdict
+) -> Result<(), Refusal>
     requires { (rules ≤ 96) × (first < 256) × (second < 256) }
     ensures { result ≡ pair_tested table.now rules first second least place }
 {
-    if absent(table, rules, first) {
-        return Verdict::Refused {
-            number: Verdict::PAIR_NAMES,
-            place,
-        };
-    }
-    if absent(table, rules, second) {
-        return Verdict::Refused {
-            number: Verdict::PAIR_NAMES,
-            place,
-        };
-    }
-    if first == second {
-        return Verdict::Refused {
-            number: Verdict::PAIR_NAMES,
-            place,
-        };
+    if absent(table, rules, first) || absent(table, rules, second) || first == second {
+        return Err(Cause::PairNames.at(place));
     }
     if 256 * first + second < least {
-        return Verdict::Refused {
-            number: Verdict::PAIR_ORDER,
-            place,
-        };
+        return Err(Cause::PairOrder.at(place));
     }
-    Verdict::Accepted
+    Ok(())
 }
 
 // The first rule beats the second.
@@ -81,48 +63,33 @@ fn beat(table: &mut RuleTable, first: u64, second: u64)
 fn clear(table: &mut RuleTable)
     ensures { (length table.new ≡ length table.old) × (length table.old ≡ 419 → (b : ℕ) → b < 16 → beaten_at table.new b ≡ 0) × ((w : ℕ) → w < 400 → get_or table.new w 0 ≡ get_or table.old w 0) }
 {
-    let mut b: u64 = 0;
-    while b < 16 {
+    for b in 0..16 {
         program::store_beaten(table, b, 0);
-        b += 1;
     }
 }
 
 // Reads the pairs, from their first byte to the end of the image.
-pub fn read(image: &[u8], from: usize, table: &mut RuleTable, counts: Counts) -> Verdict
+pub fn read(image: &[u8], from: usize, table: &mut RuleTable, counts: Counts) -> Result<(), Refusal>
     requires { ((bits : ℕ) × AllRead image.now table.old bits from) × (counts.rules ≡ rules_of image.now) × (counts.rules ≤ 96) × (counts.pairs ≡ pair_count_of image.now) × (counts.pairs ≤ 240) }
-    ensures { (result ≡ and_then (refuse (bad_pairs image.now) 11 0) (pairs_verdict image.now 0 (pair_count_of image.now))) × (length table.new ≡ 419) × (result ≡ Verdict.Accepted → ListedIn (program_in image.now) table.new) }
+    ensures { (result ≡ and_then (refuse (bad_pairs image.now) LastPartLength 0) (pairs_verdict image.now 0 (pair_count_of image.now))) × (length table.new ≡ 419) × (result ≡ accepted → ListedIn (program_in image.now) table.new) }
 {
     let rules = counts.rules as u64;
-    let count = counts.pairs;
     let pairs = &image[from..];
-    if pairs.len() != 2 * count {
-        return Verdict::Refused {
-            number: Verdict::LAST_PART_LENGTH,
-            place: 0,
-        };
+    if pairs.len() != 2 * counts.pairs {
+        return Err(Cause::LastPartLength.at(0));
     }
     clear(table);
     let mut cursor = Cursor::start();
-    let mut least: u64 = 0;
-    let mut place: u32 = 0;
-    loop {
-        let Pair::Read {
-            first,
-            second,
-            next,
-        } = cursor.pair(pairs)
-        else {
-            return Verdict::Accepted;
-        };
-        let a = wide(first);
-        let b = wide(second);
-        if let Verdict::Refused { number, place } = examine(table, rules, a, b, least, place) {
-            return Verdict::Refused { number, place };
-        }
+    let mut least = 0;
+    let mut place = 0;
+    while let Some((first, second, next)) = cursor.pair(pairs) {
+        let a = u64::from(first);
+        let b = u64::from(second);
+        examine(table, rules, a, b, least, place)?;
         beat(table, a, b);
         least = 256 * a + b + 1;
         cursor = next;
         place += 1;
     }
+    Ok(())
 }

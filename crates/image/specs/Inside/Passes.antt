@@ -1,19 +1,15 @@
 -- The pass over an image: what the rule table holds so far, and what each step of the pass hands back.
-use Rattle.std.specs.Prelude.{◌≡◌, Bool, true, false, not, ◌||◌, List, ℕ, suc, ◌+◌, ◌*◌, ◌<◌, ◌≤◌, length, get_or, set, ltb, leb, eqb}
+use Rattle.std.specs.Prelude.{◌≡◌, Bool, true, false, not, ◌||◌, List, ℕ, suc, ◌+◌, ◌*◌, ◌<◌, ◌≤◌, length, get_or, set, ltb, leb, eqb, Result, Ok, Err}
 use Rattle.lists.specs.Lists.{choose}
 use Rattle.literals.specs.Sets.{insert_all}
 use Rattle.program.specs.Program.{strict, defeasible, Rule, bit_of, defeasibles}
 use Rattle.program.specs.Inside.Table.{head_at, body_at, need_at}
 use Rattle.program.specs.Inside.Filling.{RowsTo}
-use Rattle.layout.specs.declared.Verdict.{Verdict}
-use Rattle.layout.specs.declared.Verdict.TheVariants.{Accepted, Refused}
+use Rattle.layout.specs.declared.Cause.TheVariants.{Directory, PairNames, PairOrder}
+use Rattle.layout.specs.declared.Refusal.{Refusal}
 use Rattle.layout.specs.Layout.{atoms_of, rules_of, offset_of, size_of, part_of, kind_byte}
-use Rattle.layout.specs.Causes.{refuse, and_then, bad_directory, part_verdict, rule_verdict, count_kind, rules_verdict}
+use Rattle.layout.specs.Causes.{Verdict, accepted, refuse, and_then, bad_directory, part_verdict, rule_verdict, count_kind, rules_verdict}
 use Rattle.layout.specs.Reading.{rules_in}
-use Rattle.image.specs.declared.rules.Step.{Step}
-use Rattle.image.specs.declared.rules.Step.TheVariants as step
-use Rattle.image.specs.declared.rules.Rules.{Rules}
-use Rattle.image.specs.declared.rules.Rules.TheVariants as rules
 
 -- ---- repeated rules
 
@@ -64,24 +60,24 @@ pub record ReadTo (s : List ℕ) (i bits : ℕ) (t links : List ℕ) : Type 0 wh
   pub links_long : length links ≡ 224
   pub bits_are : bits ≡ bit_of (all_rules s) i
   pub few : bits ≤ 16
-  pub accepted : (j : ℕ) → j < i → part_verdict (part_of s j) (atoms_of s) (bit_of (all_rules s) j) j ≡ Accepted
+  pub accepts : (j : ℕ) → j < i → part_verdict (part_of s j) (atoms_of s) (bit_of (all_rules s) j) j ≡ accepted
   pub rows : RowsTo (all_rules s) i t
   pub linked : Linked t links i
 
 -- what reading rule i hands back
 pub record NextRead (s : List ℕ) (i bits more : ℕ) (t links : List ℕ) : Type 0 where
-  pub accepted : rule_verdict s bits i ≡ Accepted
+  pub accepts : rule_verdict s bits i ≡ accepted
   pub counted : more ≡ count_kind (kind_byte (part_of s i)) bits
   pub read : ReadTo s (i + 1) more t links
 
-pub record StepRead (v : Step) (s : List ℕ) (i bits : ℕ) (t links : List ℕ) : Type 0 where
-  pub next : (more : ℕ) → v ≡ step.Next more → NextRead s i bits more t links
-  pub refused : (number place : ℕ) → v ≡ step.Refused number place → rule_verdict s bits i ≡ Refused number place
+abbrev pub StepRead : Result ℕ Refusal → (s : List ℕ) (i bits : ℕ) (t links : List ℕ) → Type 0
+StepRead (Ok more) s i bits t links = NextRead s i bits more t links
+StepRead (Err refusal) s i bits t links = rule_verdict s bits i ≡ Err refusal
 
 -- what reading all rules hands back
 pub record AllRead (s t : List ℕ) (bits from : ℕ) : Type 0 where
   pub directory : bad_directory s ≡ false
-  pub accepted : rules_verdict s 0 0 (rules_of s) ≡ Accepted
+  pub accepts : rules_verdict s 0 0 (rules_of s) ≡ accepted
   pub from_is : from ≡ offset_of s (rules_of s)
   pub ends : offset_of s (rules_of s) + size_of s (rules_of s) ≡ length s
   pub long : length t ≡ 419
@@ -89,9 +85,9 @@ pub record AllRead (s t : List ℕ) (bits from : ℕ) : Type 0 where
   pub few : bits ≤ 16
   pub rows : RowsTo (all_rules s) (rules_of s) t
 
-pub record RulesRead (v : Rules) (s t : List ℕ) : Type 0 where
-  pub read : (bits from : ℕ) → v ≡ rules.Read bits from → AllRead s t bits from
-  pub refused : (number place : ℕ) → v ≡ rules.Refused number place → and_then (refuse (bad_directory s) 3 0) (rules_verdict s 0 0 (rules_of s)) ≡ Refused number place
+abbrev pub RulesRead : Result (ℕ × ℕ) Refusal → (s t : List ℕ) → Type 0
+RulesRead (Ok read) s t = AllRead s t read.0 read.1
+RulesRead (Err refusal) s t = and_then (refuse (bad_directory s) Directory 0) (rules_verdict s 0 0 (rules_of s)) ≡ Err refusal
 
 -- ---- pairs
 
@@ -102,5 +98,5 @@ absent_in t rules number = leb rules number || eqb (need_at t number) 0
 -- 12 and 13 by the table, where the pair has to be `least` or more
 abbrev pub pair_tested : List ℕ → (rules first second least place : ℕ) → Verdict
 pair_tested t rules first second least place =
-    and_then (refuse (absent_in t rules first || (absent_in t rules second || eqb first second)) 12 place)
-    (refuse (ltb (256 * first + second) least) 13 place)
+    and_then (refuse (absent_in t rules first || (absent_in t rules second || eqb first second)) PairNames place)
+    (refuse (ltb (256 * first + second) least) PairOrder place)

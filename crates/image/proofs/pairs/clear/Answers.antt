@@ -1,4 +1,4 @@
-use mathlib.Core.Path.{◌≡◌, refl, ap, ◌∙◌}
+use mathlib.Core.Path.{◌≡◌, ap, ◌∙◌}
 use mathlib.Core.List.{List}
 use Prim.Native.Nat.{ℕ, ◌+◌, ◌<◌}
 use native.Mathlib.Decide.{ℕ_discrete}
@@ -19,19 +19,9 @@ next t u b long few e f k h = ap (λ (l : List ℕ). beaten_at l k) e ∙ go (�
 kept : (t u : List ℕ) (b w : ℕ) → u ≡ with_beaten t b 0 → w < 400 → get_or u w 0 ≡ get_or t w 0
 kept t u b w e h = ap (λ (l : List ℕ). get_or l w 0) e ∙ get_or-set_other t (400 + b) w 0 0 (λ z. omega arith)
 
-pub loop-b-init : goal.loop-b-init
-loop-b-init c = (refl, λ z k h. absurd (omega arith), λ w h. refl, omega arith)
-
-pub store_beaten-requires : goal.store_beaten-requires
-store_beaten-requires c = omega arith
-
 pub loop-b-preserved : goal.loop-b-preserved
 loop-b-preserved c = let l = c.loop-b in (
   ap (λ (q : List ℕ). length q) c.store_beaten.ensures ∙ length-set l.table _ _ ∙ l.invariant.0,
   λ z k h. next l.table _ l.b (l.invariant.0 ∙ z) (omega arith) c.store_beaten.ensures (l.invariant.1 z) k h,
   λ w h. kept l.table _ l.b w c.store_beaten.ensures h ∙ l.invariant.2 w h,
-  omega arith,
 )
-
-pub returns : goal.returns
-returns c = let l = c.loop-b in (l.invariant.0, λ z k h. l.invariant.1 z k (omega arith), l.invariant.2)

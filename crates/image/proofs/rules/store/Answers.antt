@@ -37,11 +37,8 @@ module _ (d : Bool) (i bit h : ℕ) (body : LiteralSet) (s t : List ℕ) (small 
         λ q z r. subst (Stored q i bit s) (sym whole) (stored_defeasible q i bit s h body small z r.head_is r.body_is (r.kind_is ∙ ap (λ (b : Bool). choose b defeasible strict) k) few),
       )
 
-pub store_bit-requires : goal.store_bit-requires
-store_bit-requires c = c.requires.1 c.if-defeasible.true
-
-pub returns-then-defeasible : goal.returns-then-defeasible
-returns-then-defeasible c = defeasible-put _ _ _ _ _ _ _ c.requires.0 _ c.if-defeasible.true (c.requires.1 c.if-defeasible.true) c.store_row.ensures c.store_bit.ensures
+pub returns-then-rule : goal.returns-then-rule
+returns-then-rule c = defeasible-put _ _ _ _ _ _ _ c.requires.0 _ c.if-rule.true (c.requires.1 c.if-rule.true) c.store_row.ensures c.store_bit.ensures
 
 pub returns : goal.returns
-returns c = strict-put _ _ _ _ _ _ _ c.requires.0 c.if-defeasible.false c.store_row-2.ensures
+returns c = strict-put _ _ _ _ _ _ _ c.requires.0 c.if-rule.false c.store_row-2.ensures
