@@ -35,11 +35,11 @@ impl Answer {
         ensures { result ≡ nodes_of self }
     {
         match self {
-            Answer::Yes { nodes } => nodes,
-            Answer::No { nodes } => nodes,
-            Answer::Undecided { nodes } => nodes,
+            Answer::Yes { nodes }
+            | Answer::No { nodes }
+            | Answer::Undecided { nodes }
+            | Answer::Unfinished { nodes } => nodes,
             Answer::Unknown => 0,
-            Answer::Unfinished { nodes } => nodes,
         }
     }
 }

@@ -1,3 +1,0 @@
--- The laws of the outcome.
-mod Zeros
-pub mod Concluded

@@ -1,0 +1,2 @@
+-- What a forest comes to.
+pub mod Outcome
