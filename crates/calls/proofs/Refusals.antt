@@ -226,12 +226,12 @@ module _ (s : List ℕ) where
   rules_judged : (i n : ℕ) → Judged (OfRules i n) (told (rules_verdict s (defeasible_before s i) i n))
   unfolding rules_verdict defeasible_before
   rules_judged i zero = from_none (RuleCause s) rule_turn i
-  rules_judged i (suc n) = from_judged (RuleCause s) rule_turn i n (rule_judged i) (rules_judged (suc i) n)
+  rules_judged i (suc n) = from_judged (RuleCause s) rule_turn i n _ _ (rule_judged i) (rules_judged (suc i) n)
 
   pairs_judged : (j n : ℕ) → Judged (OfPairs j n) (told (pairs_verdict s j n))
   unfolding pairs_verdict
   pairs_judged j zero = from_none (PairCause s) pair_turn j
-  pairs_judged j (suc n) = from_judged (PairCause s) pair_turn j n (pair_judged j) (pairs_judged (suc j) n)
+  pairs_judged j (suc n) = from_judged (PairCause s) pair_turn j n _ _ (pair_judged j) (pairs_judged (suc j) n)
 
   -- ---- the reading of an image: 1 to 13
 
@@ -286,14 +286,14 @@ module _ (s : List ℕ) where
   read_judged : Judged Read (told (verdict s))
   unfolding verdict defeasible_before
   read_judged =
-      told_judged (late_cut 0 1 13 (low_cut 1 (omega arith)) (only_spans (bad_length s) 1 0 0 1 (omega arith) (omega arith)) header_span)
+      told_judged _ _ (late_cut 0 1 13 (low_cut 1 (omega arith)) (only_spans (bad_length s) 1 0 0 1 (omega arith) (omega arith)) header_span)
       (told_one (bad_length s) causes_of.ImageLength 0) (λ _.
-      told_judged (late_cut 1 2 13 (low_cut 2 (omega arith)) (only_spans (bad_counts s) 2 0 1 2 (omega arith) (omega arith)) parts_span)
+      told_judged _ _ (late_cut 1 2 13 (low_cut 2 (omega arith)) (only_spans (bad_counts s) 2 0 1 2 (omega arith) (omega arith)) parts_span)
       (told_one (bad_counts s) causes_of.Header 0) (λ _.
-      told_judged (late_cut 2 3 13 (low_cut 3 (omega arith)) (only_spans (bad_directory s) 3 0 2 3 (omega arith) (omega arith)) all_span)
+      told_judged _ _ (late_cut 2 3 13 (low_cut 3 (omega arith)) (only_spans (bad_directory s) 3 0 2 3 (omega arith) (omega arith)) all_span)
       (told_one (bad_directory s) causes_of.Directory 0) (λ _.
-      told_judged (late_cut 3 10 13 (inr (omega arith), inl (omega arith)) rules_span last_span) (rules_judged 0 (rules_of s)) (λ _.
-      told_judged (late_cut 10 11 13 (inr (omega arith), inl (omega arith)) (only_spans (bad_pairs s) 11 0 10 11 (omega arith) (omega arith)) pairs_span)
+      told_judged _ _ (late_cut 3 10 13 (inr (omega arith), inl (omega arith)) rules_span last_span) (rules_judged 0 (rules_of s)) (λ _.
+      told_judged _ _ (late_cut 10 11 13 (inr (omega arith), inl (omega arith)) (only_spans (bad_pairs s) 11 0 10 11 (omega arith) (omega arith)) pairs_span)
       (told_one (bad_pairs s) causes_of.LastPartLength 0) (λ _. pairs_judged 0 (pair_count_of s))))))
 
   -- ---- 14

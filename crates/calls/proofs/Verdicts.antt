@@ -96,9 +96,9 @@ told_accepted (Err r) e = absurd (let z : ◌≡◌ {A = ℕ} 0 1 = cc in omega 
 pub told_one : (t : Bool) (cause : Cause) (p : ℕ) → Judged (Only t (number_of cause) p) (told (parts.refuse t cause p))
 told_one t cause p = subst (Judged (Only t (number_of cause) p)) (sym (told_refuse t cause p)) (judged_one t (number_of cause) p)
 
-pub told_judged : {A B : Causes} {a v : Result Unit Refusal} → Late A B → Judged A (told a) → (a ≡ parts.accepted → Judged B (told v))
+pub told_judged : {A B : Causes} (a v : Result Unit Refusal) → Late A B → Judged A (told a) → (a ≡ parts.accepted → Judged B (told v))
     → Judged (Either A B) (told (parts.and_then a v))
-told_judged {A} {B} {a} {v} l x d =
+told_judged {A} {B} a v l x d =
     subst (Judged (Either A B)) (sym (told_then a v)) (judged_then l x (λ e. d (told_accepted a e)))
 
 -- a lent table keeps its length
@@ -165,7 +165,7 @@ late_here i low a high f g u o m q n p b x = go (u n p x).1 (o m q b).0 (f n p x
 pub turn_then : {A B : Causes} {a v : Result Unit Refusal} {i : ℕ} (low middle high : ℕ) → low ≤ middle → middle ≤ high
     → Turn i low middle A a → Turn i middle high B v → Turn i low high (Either A B) (parts.and_then a v)
 turn_then {i = i} low middle high h k x y = record {
-  judged = told_judged (late_here i low middle high x.here y.here x.spans y.spans) x.judged (λ _. y.judged);
+  judged = told_judged _ _ (late_here i low middle high x.here y.here x.spans y.spans) x.judged (λ _. y.judged);
   here = λ n p. ⊎_elim (x.here n p) (y.here n p);
   spans = either_spans low middle high h k x.spans y.spans;
 }
@@ -197,9 +197,9 @@ module _ (C : ℕ → ℕ → Type 0) (turn : (i j m n : ℕ) → C i m → C j 
       ⊎_elim (λ e. inl (sym e, subst (λ (k : ℕ). C k m) (sym e) c)) (λ k. inr (k, omega arith, c))
       (eq-or-lt_of_le {n = i} {m = q} h)
 
-  pub from_judged : (i n : ℕ) {a v : Result Unit Refusal} → Judged (Of i) (told a) → Judged (From (suc i) n) (told v)
+  pub from_judged : (i n : ℕ) (a v : Result Unit Refusal) → Judged (Of i) (told a) → Judged (From (suc i) n) (told v)
       → Judged (From i (suc n)) (told (parts.and_then a v))
-  from_judged i n x y = judged_same (from_next i n) (next_from i n) (told_judged (late_next i n) x (λ _. y))
+  from_judged i n a v x y = judged_same (from_next i n) (next_from i n) (told_judged a v (late_next i n) x (λ _. y))
 
 -- ---- the first is one: of two causes that apply and differ, one is looked for before the other
 

@@ -11,7 +11,9 @@ use Rattle.derivation.specs.Closure.{closure, contradictory}
 use Rattle.derivation.proofs.Choices.{Π_mask_empty}
 use Rattle.derivation.proofs.Tables.{limits_shaped}
 use Rattle.calls.specs.Verdicts.{Verdict, Accepted, Refused}
+use Rattle.std.proofs.lemmas.Result.{err_from_is_err_and}
 use Rattle.layout.specs.Causes.{verdict}
+use Rattle.layout.specs.Causes as images
 use Rattle.calls.specs.Verdicts.{refuse, and_then}
 use Rattle.layout.specs.Reading.{program_in}
 use Rattle.image.proofs.Accepted.{accepted_limits}
@@ -21,16 +23,16 @@ use Rattle.calls.proofs.load.Goals as goal
 
 module _ (s : List ℕ) where
   -- causes 1 to 13, then 14 by its test
-  check_by : (v : Verdict) (b : Bool) → verdict s ≡ v → contradictory (Π (program_in s).rules) ≡ b → check_image s ≡ and_then v (refuse b 14 0)
+  check_by : (v : Verdict) (b : Bool) → told (verdict s) ≡ v → contradictory (Π (program_in s).rules) ≡ b → check_image s ≡ and_then v (refuse b 14 0)
   unfolding check_image
   check_by v b e f = ap₂ (λ (w : Verdict) (t : Bool). and_then w (refuse t 14 0)) e f
 
-  refused : (n k : ℕ) (t : List ℕ) → verdict s ≡ Refused n k → (Refused n k ≡ check_image s) × (check_image s ≡ Accepted → Holds (program_in s) t)
+  refused : (n k : ℕ) (t : List ℕ) → told (verdict s) ≡ Refused n k → (Refused n k ≡ check_image s) × (check_image s ≡ Accepted → Holds (program_in s) t)
   refused n k t e =
       let is = check_by (Refused n k) (contradictory (Π (program_in s).rules)) e refl in
       (sym is, λ a. absurd (let z : ◌≡◌ {A = ℕ} 0 1 = cc in omega arith))
 
-  shaped : (t : List ℕ) → verdict s ≡ Accepted → Holds (program_in s) t → Shaped t
+  shaped : (t : List ℕ) → verdict s ≡ images.accepted → Holds (program_in s) t → Shaped t
   shaped t e h = limits_shaped (program_in s) t h (accepted_limits s e)
 
   -- what nothing given derives by the strict rules
@@ -38,30 +40,31 @@ module _ (s : List ℕ) where
   tested t c given r b close none h e q =
       ap clash (ap (λ (l : List Rule). closure l 0) (sym (Π_mask_empty (program_in s).rules)) ∙ ap (closure (Π_mask 0 (program_in s).rules)) (sym none) ∙ sym (close (program_in s) h)) ∙ sym e ∙ q
 
-  clashing : (t : List ℕ) → verdict s ≡ Accepted → contradictory (Π (program_in s).rules) ≡ true → (Refused 14 0 ≡ check_image s) × (check_image s ≡ Accepted → Holds (program_in s) t)
+  clashing : (t : List ℕ) → verdict s ≡ images.accepted → contradictory (Π (program_in s).rules) ≡ true → (Refused 14 0 ≡ check_image s) × (check_image s ≡ Accepted → Holds (program_in s) t)
   clashing t e f =
-      let is = check_by Accepted true e f in
+      let is = check_by Accepted true (ap told e) f in
       (sym is, λ a. absurd (let z : ◌≡◌ {A = ℕ} 0 1 = cc in omega arith))
 
-  accepted : (t : List ℕ) → verdict s ≡ Accepted → contradictory (Π (program_in s).rules) ≡ false → Holds (program_in s) t → (Accepted ≡ check_image s) × (check_image s ≡ Accepted → Holds (program_in s) t)
-  accepted t e f h = (sym (check_by Accepted false e f), λ a. h)
+  accepted : (t : List ℕ) → verdict s ≡ images.accepted → contradictory (Π (program_in s).rules) ≡ false → Holds (program_in s) t → (Accepted ≡ check_image s) × (check_image s ≡ Accepted → Holds (program_in s) t)
+  accepted t e f h = (sym (check_by Accepted false (ap told e) f), λ a. h)
 
 pub returns-in_err-read : goal.returns-in_err-read
-returns-in_err-read c = refused c.args.image.now _ _ _ (sym c.read.ensures.0 ∙ ap told c.in_err-read.was)
+returns-in_err-read c = let p = err_from_is_err_and c.from_residual.result c.from_residual.ensures.1 in rw (p.1, p.2)
+    (refused c.args.image.now _ _ _ (ap told (sym c.read.ensures.0 ∙ c.in_err-read.was)))
 
 pub close-requires : goal.close-requires
 close-requires c = let s = c.args.image.now in
-    let e = sym c.read.ensures.0 ∙ ap told c.in_ok-read.was in
+    let e = sym c.read.ensures.0 ∙ c.in_ok-read.was in
     shaped s _ e (c.read.ensures.1 e)
 
 pub returns-then-contradictory : goal.returns-then-contradictory
 returns-then-contradictory c = let s = c.args.image.now in
-    let e = sym c.read.ensures.0 ∙ ap told c.in_ok-read.was in
+    let e = sym c.read.ensures.0 ∙ c.in_ok-read.was in
     let h = c.read.ensures.1 e in
-    clashing s _ e (tested s _ _ _ _ _ c.close.ensures c.empty.ensures h c.contradictory.ensures c.if-contradictory.true)
+    rw c.at.ensures (clashing s _ e (tested s _ _ _ _ _ c.close.ensures c.empty.ensures h c.contradictory.ensures c.if-contradictory.true))
 
 pub returns : goal.returns
 returns c = let s = c.args.image.now in
-    let e = sym c.read.ensures.0 ∙ ap told c.in_ok-read.was in
+    let e = sym c.read.ensures.0 ∙ c.in_ok-read.was in
     let h = c.read.ensures.1 e in
     accepted s _ e (tested s _ _ _ _ _ c.close.ensures c.empty.ensures h c.contradictory.ensures c.if-contradictory.false) h
