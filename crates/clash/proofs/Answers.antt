@@ -8,10 +8,10 @@ use lib.ListN.{length}
 use borrow.Author.Tests.{lt-ltb, le-ltb}
 use Rattle.program.specs.Program.{Rule, Π}
 use Rattle.program.specs.Inside.Table.{rule_count, Holds, Shaped}
-use Rattle.calls.proofs.Verdicts.{told_accepted}
 use Rattle.calls.specs.Verdicts.{told, Verdict, Accepted, Refused}
 use Rattle.layout.specs.Layout.{rules_of}
 use Rattle.layout.specs.Causes.{verdict}
+use Rattle.layout.specs.Causes as images
 use Rattle.layout.specs.Reading.{program_in}
 use Rattle.image.proofs.Accepted.{accepted_limits}
 use Rattle.image.proofs.Readings.{rules_length}
@@ -26,8 +26,8 @@ use Rattle.clash.proofs.Strict.{among_strict}
 use Rattle.clash.proofs.Refusals.{clashes, verdict_by}
 
 -- a rule table that was filled
-pub shaped : (s t : List ℕ) → told (verdict s) ≡ Accepted → Holds (program_in s) t → Shaped t
-shaped s t e h = limits_shaped (program_in s) t h (accepted_limits s (told_accepted (verdict s) e))
+pub shaped : (s t : List ℕ) → verdict s ≡ images.accepted → Holds (program_in s) t → Shaped t
+shaped s t e h = limits_shaped (program_in s) t h (accepted_limits s e)
 
 pub count_is : (s t : List ℕ) (n : ℕ) → Holds (program_in s) t → n ≡ rule_count t → n ≡ rules_of s
 unfolding program_in
@@ -52,20 +52,20 @@ module _ (s table : List ℕ) where
       → (outcomes.Refused n k ≡ clashed_by s (length table)) × (table ≡ clash_table s table)
   call_refused n k e = answer (Refused n k) (verdict_by s (length table) (Refused n k) (clashes s) (ltb (length table) (rules_of s)) e refl refl)
 
-  module _ (read : told (verdict s) ≡ Accepted) where
+  module _ (read : verdict s ≡ images.accepted) where
     pub call_28 : clashes s ≡ false → (outcomes.Refused 28 0 ≡ clashed_by s (length table)) × (table ≡ clash_table s table)
-    call_28 e = answer (Refused 28 0) (verdict_by s (length table) Accepted false (ltb (length table) (rules_of s)) read e refl)
+    call_28 e = answer (Refused 28 0) (verdict_by s (length table) Accepted false (ltb (length table) (rules_of s)) (ap told read) e refl)
 
     module _ (clashing : clashes s ≡ true) where
       pub call_29 : length table < rules_of s → (outcomes.Refused 29 0 ≡ clashed_by s (length table)) × (table ≡ clash_table s table)
       call_29 l =
-          answer (Refused 29 0) (verdict_by s (length table) Accepted true true read clashing (lt-ltb (length table) (rules_of s) l))
+          answer (Refused 29 0) (verdict_by s (length table) Accepted true true (ap told read) clashing (lt-ltb (length table) (rules_of s) l))
 
       pub call_done : rules_of s ≤ length table → (n k : ℕ) (after : List ℕ) → n ≡ rules_of s → k ≡ clash_of (program_in s).rules
           → after ≡ front (marks_from k 0 n) table → (outcomes.Given n ≡ clashed_by s (length table)) × (after ≡ clash_table s table)
       unfolding marks_of
       call_done l n k after en ek ea =
-          let o = answer Accepted (verdict_by s (length table) Accepted true false read clashing (le-ltb (length table) (rules_of s) l)) in (
+          let o = answer Accepted (verdict_by s (length table) Accepted true false (ap told read) clashing (le-ltb (length table) (rules_of s) l)) in (
             ap outcomes.Given en ∙ o.0,
             ea ∙ ap (λ (x : ℕ). front (marks_from x 0 n) table) ek
                 ∙ ap (λ (m : ℕ). front (marks_from (clash_of (program_in s).rules) 0 m) table) en ∙ o.1,

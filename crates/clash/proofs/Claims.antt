@@ -38,7 +38,7 @@ module _ (s table : List ℕ) where
   unfolding clashed_by
   result =
       returns (ClashCause s room) (clash_verdict s room) (rules_of s) (clash_judged s room)
-      (λ e. omega (arith, (accepted_sound s (clash_accepted s room e).0).few_rules)) (clash_small s room)
+      (λ e. omega (arith, (accepted_sound s (told_accepted (verdict s) (clash_accepted s room e).0)).few_rules)) (clash_small s room)
 
   bytes : Fills (clash_verdict s room) (marks_of s) table (clash_table s table)
   unfolding clash_table

@@ -15,7 +15,7 @@ use Rattle.layout.specs.Layout.{rules_of}
 use Rattle.layout.specs.Causes.{verdict}
 use Rattle.calls.specs.Verdicts.{refuse, and_then}
 use Rattle.layout.specs.Reading.{program_in}
-use Rattle.calls.proofs.Verdicts.{then_left, then_right, refuse_not}
+use Rattle.calls.proofs.Verdicts.{then_left, then_right, refuse_not, told_accepted}
 use Rattle.derivation.specs.Closure.{contradictory}
 use Rattle.calls.specs.Calls.{check_image}
 use Rattle.calls.specs.Causes.{ImageCause, Judged}
@@ -58,7 +58,7 @@ module _ (s : List ℕ) where
   sound_judged : told (verdict s) ≡ Accepted → Judged Sound (refuse (not clashes) 28 0)
   sound_judged e =
       judged_same
-      (λ n p (a, b, t). (a, b, accepted_none (check_passes s e (not-true clashes (T_true (not clashes) t)))))
+      (λ n p (a, b, t). (a, b, accepted_none (check_passes s (told_accepted (verdict s) e) (not-true clashes (T_true (not clashes) t)))))
       (λ n p (a, b, f). (a, b, true_T (not clashes) (ap not (check_accepted s (none_accepted f)).1)))
       (judged_one (not clashes) 28 0)
 
