@@ -4,7 +4,6 @@
 
 ghost use Rattle.std.specs.Prelude.{◌≤◌, length};
 
-use layout::Verdict;
 use literals::LiteralSet;
 use std::env::{Env, FillError};
 use std::io::{Print, Read};
@@ -65,19 +64,17 @@ fn fill(file: &mut impl Read, buffer: &mut [u8]) -> usize
 
 // One line: the literals that the facts and strict rules derive, ascending, or why the image is refused.
 fn strict_part(rt: &impl Print, image: &[u8]) -> io::Result<()> {
-    let mut table = [0u64; 419];
+    let mut table = [0; 419];
     match image::read(image, &mut table) {
-        Verdict::Refused { number, place } => println!(rt; "refused {number} {place}"),
-        Verdict::Accepted => literals_of(rt, derivation::close(&table, 0, LiteralSet::empty())),
+        Ok(()) => literals_of(rt, derivation::close(&table, 0, LiteralSet::empty())),
+        Err(refusal) => println!(rt; "{refusal}"),
     }
 }
 
 fn literals_of(rt: &impl Print, set: LiteralSet) -> io::Result<()> {
     print!(rt; "derived")?;
-    for literal in 0..128u64 {
-        if set.has(literal) {
-            print!(rt; " {literal}")?;
-        }
+    for literal in set {
+        print!(rt; " {literal}")?;
     }
     println!(rt; "")
 }

@@ -1,26 +1,23 @@
 -- The limits the other way: an image whose program is within them has no literal and no pair that is refused. With
 -- `accepted_limits` they ask neither more nor less of literals and pairs than causes 6 and 12 do.
 use mathlib.Core.Path.{◌≡◌, refl, sym, ap, subst, ◌∙◌}
-use mathlib.Core.Bool.{Bool, true, false, not, ◌||◌}
+use mathlib.Core.Bool.{Bool, true, false, not}
 use mathlib.Core.List.{List, [], ◌∷◌, Memᴰ}
 use Prim.Native.Nat.{ℕ, zero, suc, ◌+◌, ◌*◌, ◌<◌}
 use native.Mathlib.Nat.{add-zero}
 use native.Mathlib.Omega.{arith}
 use lib.ListN.{drop}
-use lib.Dec.{ltb, leb, eqb}
+use lib.Dec.{ltb, eqb}
 use borrow.Author.Tests.{lt-ltb, lt-leb, ne_eqb}
 use Rattle.literals.proofs.Tests.{and_intro}
 use Rattle.program.specs.Program.{defeasible, Rule, is_defeasible}
 use Rattle.program.specs.Limits.{DefeasibleAt, Limits}
 use Rattle.layout.specs.Layout.{atoms_of, rules_of, pair_count_of, part_of, kind_byte, first_of, second_of}
+use Rattle.layout.proofs.Directory.{neither}
 use Rattle.layout.specs.Causes.{all_below, bad_literal, not_defeasible, bad_pair}
 use Rattle.layout.specs.Reading.{rule_in, rules_in, pairs_in, program_in}
 use Rattle.image.proofs.EachRule.{kind_strict}
 use Rattle.image.proofs.Readings.{rules_length, rules_at}
-
-neither : (a b : Bool) → a ≡ false → b ≡ false → (a || b) ≡ false
-neither true b e f = e
-neither false b e f = f
 
 -- ---- the rules and pairs of the parts are the program's
 pairs_from : (s : List ℕ) (j n i : ℕ) → i < n → Memᴰ (first_of s (j + i), second_of s (j + i)) (pairs_in s j n)
@@ -69,7 +66,7 @@ module _ (s : List ℕ) (limits : Limits (program_in s)) where
   named : (a : ℕ) → DefeasibleAt (rules_in s 0 (rules_of s)) a → not_defeasible s a ≡ false
   named a d =
       let inside : a < rules_of s = omega (arith, d.there, rules_length s 0 (rules_of s)) in
-      neither (leb (rules_of s) a) _ (lt-leb (rules_of s) a inside)
+      neither (lt-leb (rules_of s) a inside)
       (ap not (kind_of (part_of s a) (sym (ap (λ (r : Rule). r.kind) (rules_at s (rules_of s) a inside)) ∙ d.kind_is)))
 
   -- cause 6 applies to no rule
@@ -89,5 +86,5 @@ module _ (s : List ℕ) (limits : Limits (program_in s)) where
       let z : 0 + j ≡ j = omega arith in
       let there = subst (λ (k : ℕ). Memᴰ (first_of s k, second_of s k) (pairs_in s 0 (pair_count_of s))) z (pairs_from s 0 (pair_count_of s) j h) in
       let p = limits.pairs_name (first_of s j) (second_of s j) there in
-      neither (not_defeasible s (first_of s j)) _ (named (first_of s j) p.first)
-      (neither (not_defeasible s (second_of s j)) _ (named (second_of s j) p.second) (ne_eqb (first_of s j) (second_of s j) p.distinct))
+      neither (named (first_of s j) p.first)
+      (neither (named (second_of s j) p.second) (ne_eqb (first_of s j) (second_of s j) p.distinct))

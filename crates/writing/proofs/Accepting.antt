@@ -13,12 +13,12 @@ use Rattle.program.specs.Program.{Kind, strict, defeasible, Rule, Program, fact,
 use Rattle.program.specs.Limits.{DefeasibleAt, PairOf}
 use Rattle.program.proofs.Numbers.{bit_of_below}
 use Rattle.program.proofs.Fillings.{bit_of_next}
-use Rattle.layout.specs.declared.Verdict.{Verdict}
-use Rattle.layout.specs.declared.Verdict.TheVariants.{Accepted}
 use Rattle.layout.specs.Layout.{byte_at, number_at, atoms_of, rules_of, pair_count_of, offset_of, size_of, part_of, kind_byte, first_of, second_of}
-use Rattle.layout.specs.Causes.{refuse, and_then, bad_length, bad_counts, bad_directory, bad_pairs, bad_pair, bad_order, pair_code, not_defeasible, bad_seventeenth, bad_repeat}
+use Rattle.layout.specs.declared.Cause.{Cause}
+use Rattle.layout.specs.declared.Cause.TheVariants.{ImageLength, Header, Directory, RepeatedRule, LastPartLength, PairNames, PairOrder}
+use Rattle.layout.specs.Causes.{Verdict, accepted, refuse, and_then, bad_length, bad_counts, bad_directory, bad_pairs, bad_pair, bad_order, pair_code, not_defeasible, bad_seventeenth, bad_repeat}
 use Rattle.layout.specs.Causes.{parts_follow, part_verdict, rule_verdict, count_kind, rules_verdict, pair_verdict, pairs_verdict, verdict}
-use Rattle.layout.proofs.Directory.{neither_right}
+use Rattle.layout.proofs.Directory.{neither, neither_right}
 use Rattle.writing.specs.Image.{kind_number, rule_bytes, pair_bytes, parts_of, together, image_of}
 use Rattle.writing.specs.Inside.Writable.{Writable}
 use Rattle.writing.proofs.Reading.{start_of, parts_length, image_atoms, image_rules, image_pairs, image_zero, image_offset, image_size, image_part, image_rule, image_last, image_length, pair_at, pair_first, pair_second}
@@ -26,14 +26,11 @@ use Rattle.writing.proofs.Fits.{part_passes, passes_part, stands_none, sorted_ne
 
 -- ---- verdicts of tests that fail
 
-then_both : {v w : Verdict} → v ≡ Accepted → w ≡ Accepted → and_then v w ≡ Accepted
-then_both p q = ap₂ and_then p q
+then_both : {v w : Verdict} → v ≡ accepted → w ≡ accepted → and_then v w ≡ accepted
+then_both p q = rw (p, q) refl
 
-not_refused : {b : Bool} (n k : ℕ) → b ≡ false → refuse b n k ≡ Accepted
-not_refused n k e = ap (λ (x : Bool). refuse x n k) e
-
-neither : {a b : Bool} → a ≡ false → b ≡ false → (a || b) ≡ false
-neither p q = ap₂ ◌||◌ p q
+not_refused : {b : Bool} (c : Cause) (k : ℕ) → b ≡ false → refuse b c k ≡ accepted
+not_refused c k e = ap (λ (x : Bool). refuse x c k) e
 
 pub kind_apart : (k l : Kind) → kind_number k ≡ kind_number l → k ≡ l
 kind_apart strict strict e = refl
@@ -155,13 +152,13 @@ module _ (p : Program) (w : Writable p) where
       let z : k ≡ i = apart (fact 0) p.rules k i w.rules_once (omega arith) h q in
       absurd (omega arith))
 
-  rules_accepted : (n i : ℕ) → i + n ≡ length p.rules → rules_verdict (image_of p) (bit_of p.rules i) i n ≡ Accepted
+  rules_accepted : (n i : ℕ) → i + n ≡ length p.rules → rules_verdict (image_of p) (bit_of p.rules i) i n ≡ accepted
   unfolding rules_verdict rule_verdict
   rules_accepted zero i h = refl
   rules_accepted (suc n) i h =
       let k : i < length p.rules = omega arith in
       let r : Rule = rule_at p.rules i in
-      let part : part_verdict (part_of (image_of p) i) (atoms_of (image_of p)) (bit_of p.rules i) i ≡ Accepted
+      let part : part_verdict (part_of (image_of p) i) (atoms_of (image_of p)) (bit_of p.rules i) i ≡ accepted
       = ap₂ (λ (l : List ℕ) (a : ℕ). part_verdict l a (bit_of p.rules i) i) (image_rule p i k) (image_atoms p)
       ∙ passes_part (rule_bytes r) p.atoms (bit_of p.rules i) i
       (part_passes (rule_bytes r) p.atoms 0 0 (w.rule_fits r (there (fact 0) p.rules i k))) (nine i k) in
@@ -169,7 +166,7 @@ module _ (p : Program) (w : Writable p) where
       = ap (λ (l : List ℕ). count_kind (kind_byte l) (bit_of p.rules i)) (image_rule p i k)
       ∙ counted r.kind (bit_of p.rules i)
       ∙ sym (bit_of_next p.rules 0 i k) in
-      then_both (then_both part (not_refused 10 i (ten i k)))
+      then_both (then_both part (not_refused RepeatedRule i (ten i k)))
       (ap (λ (b : ℕ). rules_verdict (image_of p) b (suc i) n) next ∙ rules_accepted n (suc i) (omega arith))
     where
       counted : (k : Kind) (b : ℕ) → count_kind (kind_number k) b ≡ next_bit k b
@@ -231,20 +228,20 @@ module _ (p : Program) (w : Writable p) where
             (sorted_next p.pairs j w.pairs_sorted h),
       ))
 
-  pairs_accepted : (n j : ℕ) → j + n ≡ length p.pairs → pairs_verdict (image_of p) j n ≡ Accepted
+  pairs_accepted : (n j : ℕ) → j + n ≡ length p.pairs → pairs_verdict (image_of p) j n ≡ accepted
   unfolding pairs_verdict pair_verdict
   pairs_accepted zero j h = refl
   pairs_accepted (suc n) j h =
-      then_both (then_both (not_refused 12 j (twelve j (omega arith))) (not_refused 13 j (thirteen j (omega arith))))
+      then_both (then_both (not_refused PairNames j (twelve j (omega arith))) (not_refused PairOrder j (thirteen j (omega arith))))
       (pairs_accepted n (suc j) (omega arith))
 
   -- "The reader accepts the result."
-  pub image_accepted : verdict (image_of p) ≡ Accepted
+  pub image_accepted : verdict (image_of p) ≡ accepted
   unfolding verdict defeasibles_from
   image_accepted =
-      then_both (not_refused 1 0 one)
-      (then_both (not_refused 2 0 two)
-      (then_both (not_refused 3 0 three)
+      then_both (not_refused ImageLength 0 one)
+      (then_both (not_refused Header 0 two)
+      (then_both (not_refused Directory 0 three)
       (then_both (ap (rules_verdict (image_of p) 0 0) (image_rules p) ∙ rules_accepted (length p.rules) 0 (omega arith))
-      (then_both (not_refused 11 0 eleven)
+      (then_both (not_refused LastPartLength 0 eleven)
       (ap (pairs_verdict (image_of p) 0) (image_pairs p) ∙ pairs_accepted (length p.pairs) 0 (omega arith))))))

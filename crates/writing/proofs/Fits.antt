@@ -13,9 +13,9 @@ use borrow.Author.Tests.{eq-eqb, lt-ltb, le-ltb}
 use Rattle.lists.proofs.Orders.{ordered_at}
 use Rattle.lists.specs.Sorting.{before, Sorted}
 use Rattle.lists.proofs.Sorting.{first_decides, before_trans}
-use Rattle.layout.specs.declared.Verdict.TheVariants.{Accepted}
 use Rattle.layout.specs.Layout.{kind_byte, part_of}
-use Rattle.layout.specs.Causes.{refuse, bad_size, bad_kind, bad_literal, bad_body, bad_empty, bad_seventeenth, part_verdict, same_bytes, stands_in}
+use Rattle.layout.specs.declared.Cause.TheVariants.{RuleLength, RuleKind, LiteralRange, BodyOrder, DefeasibleWithoutBody}
+use Rattle.layout.specs.Causes.{accepted, refuse, bad_size, bad_kind, bad_literal, bad_body, bad_empty, bad_seventeenth, part_verdict, same_bytes, stands_in}
 use Rattle.part.proofs.Verdicts.{by_tests}
 use Rattle.layout.proofs.Directory.{neither_left, neither_right}
 use Rattle.part.proofs.Bytes.{same_bytes_lem, bytes_same}
@@ -32,23 +32,23 @@ pub record Passes (part : List ℕ) (atoms : ℕ) : Type 0 where
   pub seven : bad_body part ≡ false
   pub eight : bad_empty part ≡ false
 
-pub part_passes : (part : List ℕ) (atoms count place : ℕ) → part_verdict part atoms count place ≡ Accepted → Passes part atoms
+pub part_passes : (part : List ℕ) (atoms count place : ℕ) → part_verdict part atoms count place ≡ accepted → Passes part atoms
 unfolding part_verdict
 part_passes part atoms count place e =
-    let e5 = then_right (refuse (bad_size part) 4 place) _ e in
-    let e6 = then_right (refuse (bad_kind part) 5 place) _ e5 in
-    let e7 = then_right (refuse (bad_literal atoms part) 6 place) _ e6 in
-    let e8 = then_right (refuse (bad_body part) 7 place) _ e7 in
+    let e5 = then_right (refuse (bad_size part) RuleLength place) _ e in
+    let e6 = then_right (refuse (bad_kind part) RuleKind place) _ e5 in
+    let e7 = then_right (refuse (bad_literal atoms part) LiteralRange place) _ e6 in
+    let e8 = then_right (refuse (bad_body part) BodyOrder place) _ e7 in
     record {
-      four = refuse_not (bad_size part) 4 place (then_left (refuse (bad_size part) 4 place) _ e);
-      five = refuse_not (bad_kind part) 5 place (then_left (refuse (bad_kind part) 5 place) _ e5);
-      six = refuse_not (bad_literal atoms part) 6 place (then_left (refuse (bad_literal atoms part) 6 place) _ e6);
-      seven = refuse_not (bad_body part) 7 place (then_left (refuse (bad_body part) 7 place) _ e7);
-      eight = refuse_not (bad_empty part) 8 place (then_left (refuse (bad_empty part) 8 place) _ e8);
+      four = refuse_not (bad_size part) RuleLength place (then_left (refuse (bad_size part) RuleLength place) _ e);
+      five = refuse_not (bad_kind part) RuleKind place (then_left (refuse (bad_kind part) RuleKind place) _ e5);
+      six = refuse_not (bad_literal atoms part) LiteralRange place (then_left (refuse (bad_literal atoms part) LiteralRange place) _ e6);
+      seven = refuse_not (bad_body part) BodyOrder place (then_left (refuse (bad_body part) BodyOrder place) _ e7);
+      eight = refuse_not (bad_empty part) DefeasibleWithoutBody place (then_left (refuse (bad_empty part) DefeasibleWithoutBody place) _ e8);
     }
 
 pub passes_part : (part : List ℕ) (atoms count place : ℕ) → Passes part atoms → bad_seventeenth count part ≡ false
-    → part_verdict part atoms count place ≡ Accepted
+    → part_verdict part atoms count place ≡ accepted
 passes_part part atoms count place p nine =
     by_tests part atoms count place false false false false false false p.four p.five p.six p.seven p.eight nine
 

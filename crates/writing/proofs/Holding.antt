@@ -9,9 +9,9 @@ use Rattle.lists.specs.Lists.{Distinct}
 use Rattle.lists.proofs.Places.{distinct_at}
 use Rattle.lists.specs.Sorting.{before, Sorted}
 use Rattle.program.specs.Program.{fact, rule_at}
-use Rattle.layout.specs.declared.Verdict.TheVariants.{Accepted}
 use Rattle.layout.specs.Layout.{atoms_of, rules_of, pair_count_of, part_of, kind_byte, first_of, second_of}
-use Rattle.layout.specs.Causes.{refuse, bad_pair, bad_order, pair_code, bad_repeat, part_verdict, rule_verdict, count_kind, rules_verdict, pair_verdict, pairs_verdict, verdict}
+use Rattle.layout.specs.declared.Cause.TheVariants.{RepeatedRule, PairNames, PairOrder}
+use Rattle.layout.specs.Causes.{accepted, refuse, bad_pair, bad_order, pair_code, bad_repeat, part_verdict, rule_verdict, count_kind, rules_verdict, pair_verdict, pairs_verdict, verdict}
 use Rattle.layout.specs.Reading.{rules_in, pairs_in, program_in}
 use Rattle.image.proofs.Readings.{rules_length, rules_at, rules_found, pairs_length}
 use Rattle.image.proofs.Accepted.{then_left, then_right, refuse_not, Sound, accepted_sound, accepted_limits, pair_named}
@@ -23,7 +23,7 @@ use Rattle.writing.proofs.Fits.{Passes, part_passes, passes_part, none_seventeen
 
 module _ (s : List ℕ) where
   -- each rule in turn, with the count that it was looked at with
-  rule_accepted : (n i count : ℕ) → rules_verdict s count i n ≡ Accepted → (k : ℕ) → k < n → (c : ℕ) × (rule_verdict s c (i + k) ≡ Accepted)
+  rule_accepted : (n i count : ℕ) → rules_verdict s count i n ≡ accepted → (k : ℕ) → k < n → (c : ℕ) × (rule_verdict s c (i + k) ≡ accepted)
   unfolding rules_verdict
   rule_accepted zero i count e k h = absurd (omega arith)
   rule_accepted (suc n) i count e zero h =
@@ -34,7 +34,7 @@ module _ (s : List ℕ) where
       let z : suc i + k ≡ i + suc k = omega arith in
       (r.0, ap (rule_verdict s r.0) (sym z) ∙ r.1)
 
-  pair_accepted : (n j : ℕ) → pairs_verdict s j n ≡ Accepted → (k : ℕ) → k < n → pair_verdict s (j + k) ≡ Accepted
+  pair_accepted : (n j : ℕ) → pairs_verdict s j n ≡ accepted → (k : ℕ) → k < n → pair_verdict s (j + k) ≡ accepted
   unfolding pairs_verdict
   pair_accepted zero j e k h = absurd (omega arith)
   pair_accepted (suc n) j e zero h =
@@ -54,11 +54,11 @@ module _ (s : List ℕ) where
       let z : suc j + k ≡ j + suc k = omega arith in
       pairs_at n (suc j) k (omega arith) ∙ ap (λ (i : ℕ). (first_of s i, second_of s i)) z
 
-  module _ (e : verdict s ≡ Accepted) where
+  module _ (e : verdict s ≡ accepted) where
     sound : Sound s
     sound = accepted_sound s e
 
-    ruled : (k : ℕ) → k < rules_of s → (c : ℕ) × (rule_verdict s c k ≡ Accepted)
+    ruled : (k : ℕ) → k < rules_of s → (c : ℕ) × (rule_verdict s c k ≡ accepted)
     ruled k h =
         let r = rule_accepted (rules_of s) 0 0 sound.rules_accepted k h in
         let z : 0 + k ≡ k = omega arith in
@@ -74,7 +74,7 @@ module _ (s : List ℕ) where
     unfolding rule_verdict
     fresh k h =
         let r = ruled k h in
-        refuse_not (bad_repeat s k) 10 k (then_right (part_verdict (part_of s k) (atoms_of s) r.0 k) _ r.1)
+        refuse_not (bad_repeat s k) RepeatedRule k (then_right (part_verdict (part_of s k) (atoms_of s) r.0 k) _ r.1)
 
     pub rule_is : (k : ℕ) → k < rules_of s → rule_bytes (rule_at (rules_in s 0 (rules_of s)) k) ≡ part_of s k
     rule_is k h = ap rule_bytes (rules_at s (rules_of s) k h) ∙ part_written s e k h
@@ -91,8 +91,8 @@ module _ (s : List ℕ) where
     ascends j h =
         let z : 0 + suc j ≡ suc j = omega arith in
         leb-false (pair_code s (suc j)) (pair_code s j)
-        (refuse_not (bad_order s (suc j)) 13 (suc j)
-        (then_right (refuse (bad_pair s (suc j)) 12 (suc j)) _
+        (refuse_not (bad_order s (suc j)) PairOrder (suc j)
+        (then_right (refuse (bad_pair s (suc j)) PairNames (suc j)) _
         (ap (pair_verdict s) (sym z) ∙ pair_accepted (pair_count_of s) 0 sound.pairs_accepted (suc j) h)))
 
     second_small : (j : ℕ) → j < pair_count_of s → second_of s j < 256

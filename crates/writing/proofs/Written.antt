@@ -14,9 +14,8 @@ use Rattle.lists.proofs.Lists.{upto_last}
 use Rattle.lists.proofs.Places.{map-append}
 use Rattle.literals.proofs.Tests.{and_left, and_right}
 use Rattle.program.specs.Program.{strict, defeasible}
-use Rattle.layout.specs.declared.Verdict.TheVariants.{Accepted}
 use Rattle.layout.specs.Layout.{byte_at, number_at, atoms_of, rules_of, pair_count_of, offset_of, size_of, part_of, kind_byte, first_of, second_of}
-use Rattle.layout.specs.Causes.{parts_follow, verdict}
+use Rattle.layout.specs.Causes.{accepted, parts_follow, verdict}
 use Rattle.layout.specs.Reading.{rule_in, rules_in, pairs_in, program_in}
 use Rattle.layout.proofs.Parts.{part_length}
 use Rattle.part.proofs.Bytes.{drop_at}
@@ -122,7 +121,7 @@ pairs_written s (suc n) j h =
 
 -- ---- the whole image
 
-module _ (s : List ℕ) (e : verdict s ≡ Accepted) where
+module _ (s : List ℕ) (e : verdict s ≡ accepted) where
   sound : Sound s
   sound = accepted_sound s e
 

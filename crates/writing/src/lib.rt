@@ -10,16 +10,10 @@ ghost use Rattle.writing.specs.Inside.Steps.{PartsAt, Numbers, parts_by, entry_b
 use layout::cursor;
 
 // Where the next directory entry goes, and where the part that it is for begins.
-#[derive(Clone, Copy)]
+#[derive(Clone, Copy, PartialEq, Eq, Debug)]
 pub struct Place {
     pub at: usize,
     pub from: usize,
-}
-
-fn wide(byte: u8) -> usize
-    ensures { result ≡ byte }
-{
-    byte as usize
 }
 
 // Copies bytes.
@@ -27,13 +21,8 @@ pub fn copy(bytes: &[u8], out: &mut [u8], at: usize) -> usize
     requires { at + length bytes.now ≤ length out.old }
     ensures { Written out.old out.new at result bytes.now }
 {
-    let mut next = at;
-    let mut k: usize = 0;
-    while k < bytes.len() {
-        out[next] = bytes[k];
-        next += 1;
-        k += 1;
-    }
+    let next = at + bytes.len();
+    out[at..next].copy_from_slice(bytes);
     next
 }
 
@@ -78,14 +67,12 @@ pub fn entries(
 {
     let mut next = at;
     let mut from = start;
-    let mut k: usize = 0;
-    while k < rules {
-        let i = wide(order[k]);
+    for k in 0..rules {
+        let i = usize::from(order[k]);
         let span = cursor::locate(image, i);
         let size = span.to - span.from;
         next = entry(from, size, out, next);
         from += size;
-        k += 1;
     }
     Place { at: next, from }
 }
@@ -98,14 +85,10 @@ pub fn parts(image: &[u8], rules: usize, order: &[u8], out: &mut [u8], at: usize
     ensures { Written out.old out.new at result (together (parts_by image.now rules order.now)) }
 {
     let mut next = at;
-    let mut k: usize = 0;
-    while k < rules {
-        let i = wide(order[k]);
+    for k in 0..rules {
+        let i = usize::from(order[k]);
         let part = cursor::locate(image, i);
-        let from = part.from;
-        let to = part.to;
-        next = copy(&image[from..to], out, next);
-        k += 1;
+        next = copy(&image[part.from..part.to], out, next);
     }
     next
 }

@@ -7,5 +7,5 @@ use Rattle.catalogue.proofs.strict_part.Goals as goal
 pub close-requires : goal.close-requires
 close-requires g c =
     let s = c.args.image.now in
-    let e = sym c.read.ensures.0 ∙ c.in-Accepted.is in
+    let e = sym c.read.ensures.0 ∙ c.in-Ok.is in
     limits_shaped _ _ (c.read.ensures.1 e) (accepted_limits s e)

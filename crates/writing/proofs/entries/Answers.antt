@@ -9,14 +9,14 @@ use Rattle.writing.proofs.entries.Goals.{After-locate-span}
 -- the entry of the part that the k-th number names has its place, and its two numbers fit
 fits : (c : After-locate-span) → (c.loop-k.next + 4 ≤ length c.loop-k.out) × (c.loop-k.from + (c.locate-span.result.to - c.locate-span.result.from) < 65536)
 fits c =
-    entry_fits _ _ _ _ _ _ c.requires.numbers _ _ _ _ c.loop-k.invariant c.loop-k-test.true _ c.wide-i.ensures _ _ c.locate-span.ensures
+    entry_fits _ _ _ _ _ _ c.requires.numbers _ _ _ _ c.loop-k.invariant (omega arith) _ c.from-i.ensures _ _ c.locate-span.ensures
     c.requires.parts_at c.requires.rules_in_bounds c.requires.order_bound
 
 pub loop-k-init : goal.loop-k-init
 loop-k-init c = entering_all _ _ _ _ _ _
 
 pub locate-span-requires : goal.locate-span-requires
-locate-span-requires c = c.requires.parts_at _ (omega (arith, c.wide-i.ensures, c.requires.numbers.below c.loop-k.k c.loop-k-test.true))
+locate-span-requires c = c.requires.parts_at _ (omega (arith, c.from-i.ensures, c.requires.numbers.below c.loop-k.k (omega arith)))
 
 pub overflow_sub-size : goal.overflow_sub-size
 overflow_sub-size c = located_order _ _ _ _ c.locate-span.ensures
@@ -32,12 +32,12 @@ pub overflow_add-from : goal.overflow_add-from
 overflow_add-from c = omega (arith, (fits (goal.at.overflow_add-from c).After-locate-span).1)
 
 pub loop-k-preserved : goal.loop-k-preserved
-loop-k-preserved c = entry_written _ _ _ _ _ _ c.requires.numbers _ _ _ _ c.loop-k.invariant c.loop-k-test.true _ c.wide-i.ensures _ _ c.locate-span.ensures c.requires.parts_at _ _ c.entry-next.ensures
+loop-k-preserved c = entry_written _ _ _ _ _ _ c.requires.numbers _ _ _ _ c.loop-k.invariant (omega arith) _ c.from-i.ensures _ _ c.locate-span.ensures c.requires.parts_at _ _ c.entry-next.ensures
 
 pub shape_of-out : goal.shape_of-out
 shape_of-out c = c.loop-k.invariant.writing.kept
 
 pub returns : goal.returns
 returns c =
-    let all = entering_none _ _ _ _ _ _ c.requires.numbers _ _ _ _ c.loop-k.invariant c.loop-k-test.false in
+    let all = entering_none _ _ _ _ _ _ c.requires.numbers _ _ _ _ c.loop-k.invariant (omega arith) in
     record { written = all.0; from_value = all.1 }

@@ -1,5 +1,4 @@
 -- The parts from the k-th number on are left to be written.
-use Prim.Native.Nat.{◌-◌}
 use Rattle.lists.proofs.Stores.{Writing}
 use Rattle.writing.specs.Image.{together}
 use Rattle.writing.specs.Inside.Steps.{parts_by}
@@ -8,6 +7,3 @@ use Rattle.writing.proofs.parts.Given as goal
 
 abbrev pub invariant-loop-k : goal.invariant-loop-k
 invariant-loop-k l = Writing l.initial.out l.out l.at l.next (together (parts_by l.image l.rules l.order)) (together (parts_from l.image l.rules l.order l.k))
-
-abbrev pub decreases-loop-k : goal.decreases-loop-k
-decreases-loop-k l = l.rules - l.k
