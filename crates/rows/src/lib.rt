@@ -12,10 +12,20 @@ ghost use Rattle.rows.specs.Switched.{NeedsOne};
 ghost use Rattle.rows.specs.Layout.{word_of, Rows, Placed, Bearing};
 ghost use Rattle.rows.specs.Steps.{LowWord, Met, Readable, Decoded, Fires, OneWord, Above, Rounds};
 
-use literals::LiteralSet;
+use literals::{LiteralSet, masks};
 use program::RuleTable;
 
 pub mod span;
+
+// For each of the six lowest bits of a mask the places with that bit among the 64 of a word.
+pub const PLACES: [u64; 6] = [
+    0xAAAA_AAAA_AAAA_AAAA,
+    0xCCCC_CCCC_CCCC_CCCC,
+    0xF0F0_F0F0_F0F0_F0F0,
+    0xFF00_FF00_FF00_FF00,
+    0xFFFF_0000_FFFF_0000,
+    0xFFFF_FFFF_0000_0000,
+];
 
 // Fills the rows, from what they have: rounds over the rules, the last of which changes no row that a rule has read by then.
 pub fn fill(table: &RuleTable, keep: &[u64], base: &[u64], rows: &mut [u64])
@@ -128,13 +138,9 @@ fn meet(keep: &[u64], base: &[u64], rows: &[u64], w: u64, literals: LiteralSet, 
 pub fn low_word(need: u64) -> u64
     ensures { (kind : Kind) (b : ℕ) → need ≡ need_of kind b → LowWord need result }
 {
-    match need {
-        1 => 0xAAAA_AAAA_AAAA_AAAA,
-        2 => 0xCCCC_CCCC_CCCC_CCCC,
-        4 => 0xF0F0_F0F0_F0F0_F0F0,
-        8 => 0xFF00_FF00_FF00_FF00,
-        16 => 0xFFFF_0000_FFFF_0000,
-        32 => 0xFFFF_FFFF_0000_0000,
-        _ => 0xFFFF_FFFF_FFFF_FFFF,
+    let low = need % 64;
+    if low == 0 {
+        return 0xFFFF_FFFF_FFFF_FFFF;
     }
+    PLACES[masks::lowest(low) as usize]
 }
