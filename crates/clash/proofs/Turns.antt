@@ -10,6 +10,7 @@ use lib.ListN.{length, get_or, drop, set, length-set, drop_of_length-le}
 use lib.Pow.{pow_pos}
 use lib.Seq.{drop-cons, sets, sets-eq}
 use borrow.Author.Tests.{not-true, not-false}
+use mir.Val.{bool_byte}
 use Rattle.lists.specs.Lists.{choose}
 use Rattle.literals.specs.Sets.{has, insert, minus}
 use Rattle.literals.proofs.Members.{has_empty}
@@ -23,29 +24,25 @@ use Rattle.clash.proofs.Strict.{strict_next, strict_end}
 -- ---- the strict rules
 
 -- the strict rules from rule i on are still to be put to s
-pub record Sorting (t : List ℕ) (n i s : ℕ) : Type 0 where
-  pub inside : i ≤ n
-  pub left : (p : Program) → Holds p t → strict_from s i (drop i p.rules) ≡ strict_rules p.rules
+abbrev pub Sorting : List ℕ → ℕ → ℕ → Type 0
+Sorting t i s = (p : Program) → Holds p t → strict_from s i (drop i p.rules) ≡ strict_rules p.rules
 
 module _ (t : List ℕ) (n : ℕ) (count : n ≡ rule_count t) where
-  pub sorting_start : (s : ℕ) → s ≡ 0 → Sorting t n 0 s
-  sorting_start s e = record { inside = omega arith; left = λ p h. ap (λ (x : ℕ). strict_from x 0 p.rules) e }
+  pub sorting_start : (s : ℕ) → s ≡ 0 → Sorting t 0 s
+  sorting_start s e p h = ap (λ (x : ℕ). strict_from x 0 p.rules) e
 
   needed : (k : Kind) (b v : ℕ) → v ≡ need_of k b → ((v ≡ 0 → ⊥) → is_defeasible k ≡ true) × (v ≡ 0 → is_defeasible k ≡ false)
   needed strict b v e = (λ f. absurd (f e), λ z. refl)
   needed defeasible b v e = (λ f. refl, λ z. absurd (omega (arith, pow_pos b)))
 
-  module _ (i s need : ℕ) (less : i < n) (is : need ≡ need_at t i) (sorting : Sorting t n i s) where
+  module _ (i s need : ℕ) (less : i < n) (is : need ≡ need_at t i) (sorting : Sorting t i s) where
     sorted : (u : ℕ) → ((p : Program) → Holds p t → u ≡ choose (is_defeasible (rule_at p.rules i).kind) s (insert s i))
-        → Sorting t n (i + 1) u
-    sorted u f = record {
-      inside = omega arith;
-      left = λ p h.
-          ap₂ (λ (x k : ℕ). strict_from x k (drop k p.rules)) (f p h) (add-one i)
-          ∙ sym (strict_next s i (drop (suc i) p.rules) (rule_at p.rules i))
-          ∙ sym (ap (strict_from s i) (drop-cons p.rules i (fact 0) (omega (arith, h.rules_are))))
-          ∙ sorting.left p h;
-    }
+        → Sorting t (i + 1) u
+    sorted u f p h =
+        ap₂ (λ (x k : ℕ). strict_from x k (drop k p.rules)) (f p h) (add-one i)
+        ∙ sym (strict_next s i (drop (suc i) p.rules) (rule_at p.rules i))
+        ∙ sym (ap (strict_from s i) (drop-cons p.rules i (fact 0) (omega (arith, h.rules_are))))
+        ∙ sorting p h
 
     kinds : (p : Program) → Holds p t
         → ((need ≡ 0 → ⊥) → is_defeasible (rule_at p.rules i).kind ≡ true) × (need ≡ 0 → is_defeasible (rule_at p.rules i).kind ≡ false)
@@ -54,14 +51,14 @@ module _ (t : List ℕ) (n : ℕ) (count : n ≡ rule_count t) where
         (is ∙ (h.row i (omega (arith, h.rules_are))).need_is)
 
     -- put in where it needs no bit, passed over where it needs one
-    pub sorting_next : (u : ℕ) → ((need ≡ 0) × (u ≡ insert s i)) ⊎ ((need ≡ 0 → ⊥) × (u ≡ s)) → Sorting t n (i + 1) u
+    pub sorting_next : (u : ℕ) → ((need ≡ 0) × (u ≡ insert s i)) ⊎ ((need ≡ 0 → ⊥) × (u ≡ s)) → Sorting t (i + 1) u
     sorting_next u (inl (z, e)) = sorted u (λ p h. e ∙ sym (ap (λ (v : Bool). choose v s (insert s i)) ((kinds p h).1 z)))
     sorting_next u (inr (f, e)) = sorted u (λ p h. e ∙ sym (ap (λ (v : Bool). choose v s (insert s i)) ((kinds p h).0 f)))
 
-  pub sorting_end : (i s : ℕ) → n ≤ i → Sorting t n i s → (p : Program) → Holds p t → s ≡ strict_rules p.rules
+  pub sorting_end : (i s : ℕ) → n ≤ i → Sorting t i s → (p : Program) → Holds p t → s ≡ strict_rules p.rules
   sorting_end i s over sorting p h =
       let out : length p.rules ≤ i = omega (arith, h.rules_are) in
-      sym (ap (strict_from s i) (drop_of_length-le p.rules out) ∙ strict_end s i) ∙ sorting.left p h
+      sym (ap (strict_from s i) (drop_of_length-le p.rules out) ∙ strict_end s i) ∙ sorting p h
 
 -- ---- the turn of one rule
 
@@ -101,16 +98,12 @@ module _ (rules : List Rule) (n k : ℕ) (v : Bool) (ev : v ≡ has k n) where
 -- ---- from the highest number down
 
 -- what remains of the set is what remains of all
-pub record Pruning (t : List ℕ) (all n k : ℕ) : Type 0 where
-  pub inside : n ≤ rule_count t
-  pub left : (p : Program) → Holds p t → pruned p.rules n k ≡ pruned p.rules (length p.rules) all
+abbrev pub Pruning : List ℕ → ℕ → ℕ → ℕ → Type 0
+Pruning t all n k = (p : Program) → Holds p t → pruned p.rules n k ≡ pruned p.rules (length p.rules) all
 
 module _ (t : List ℕ) (all : ℕ) where
   pub pruning_start : (n : ℕ) → n ≡ rule_count t → Pruning t all n all
-  pruning_start n e = record {
-    inside = omega arith;
-    left = λ p h. ap (λ (m : ℕ). pruned p.rules m all) (e ∙ h.rules_are);
-  }
+  pruning_start n e p h = ap (λ (m : ℕ). pruned p.rules m all) (e ∙ h.rules_are)
 
   prune_step : (rules : List Rule) (n k : ℕ) → 0 < n → pruned rules n k ≡ pruned rules (n - 1) (left_out rules (n - 1) k)
   unfolding pruned
@@ -121,11 +114,8 @@ module _ (t : List ℕ) (all : ℕ) where
 
   pub pruning_next : (n k u : ℕ) → 0 < n → Pruning t all n k
       → ((p : Program) → Holds p t → u ≡ left_out p.rules (n - 1) k) → Pruning t all (n - 1) u
-  pruning_next n k u l pruning f = record {
-    inside = omega (arith, pruning.inside);
-    left = λ p h.
-        ap (pruned p.rules (n - 1)) (f p h) ∙ sym (prune_step p.rules n k l) ∙ pruning.left p h;
-  }
+  pruning_next n k u l pruning f p h =
+      ap (pruned p.rules (n - 1)) (f p h) ∙ sym (prune_step p.rules n k l) ∙ pruning p h
 
   nothing_left : (rules : List Rule) (n k : ℕ) → n ≤ 0 → pruned rules n k ≡ k
   unfolding pruned
@@ -134,7 +124,7 @@ module _ (t : List ℕ) (all : ℕ) where
 
   pub pruning_end : (n k : ℕ) → n ≤ 0 → Pruning t all n k → (p : Program) → Holds p t
       → k ≡ pruned p.rules (length p.rules) all
-  pruning_end n k over pruning p h = sym (nothing_left p.rules n k over) ∙ pruning.left p h
+  pruning_end n k over pruning p h = sym (nothing_left p.rules n k over) ∙ pruning p h
 
 -- ---- the bytes
 
@@ -151,15 +141,18 @@ marks_at k i (suc n) (suc j) l =
     let shift : suc i + j ≡ i + suc j = omega arith in
     marks_at k (suc i) n j (omega arith) ∙ ap (λ (x : ℕ). choose (has k x) 1 0) shift
 
+pub byte_marks : (v : Bool) → bool_byte v ≡ choose v 1 0
+byte_marks true = refl
+byte_marks false = refl
+
 -- the bytes from rule i on are still to be written
 pub record Marking (k n : ℕ) (before now : List ℕ) (i : ℕ) : Type 0 where
-  pub inside : i ≤ n
   pub kept : length now ≡ length before
   pub left : sets now i (marks_from k i (n - i)) ≡ sets before 0 (marks_from k 0 n)
 
 module _ (k n : ℕ) (before : List ℕ) where
   pub marking_start : Marking k n before before 0
-  marking_start = record { inside = omega arith; kept = refl; left = ap (λ (m : ℕ). sets before 0 (marks_from k 0 m)) all }
+  marking_start = record { kept = refl; left = ap (λ (m : ℕ). sets before 0 (marks_from k 0 m)) all }
     where
       all : n - 0 ≡ n
       all = omega arith
@@ -167,7 +160,6 @@ module _ (k n : ℕ) (before : List ℕ) where
   pub marking_next : (now : List ℕ) (i : ℕ) (v : Bool) (b : ℕ) → i < n → Marking k n before now i → v ≡ has k i → b ≡ choose v 1 0
       → Marking k n before (set now i b) (i + 1)
   marking_next now i v b l marking ev eb = record {
-    inside = omega arith;
     kept = length-set now i b ∙ marking.kept;
     left = ap₂ (λ (x j : ℕ). sets (set now i x) j (marks_from k j (n - j))) (eb ∙ ap (λ (x : Bool). choose x 1 0) ev) (add-one i)
         ∙ sym (ap (λ (m : ℕ). sets now i (marks_from k i m)) one_less) ∙ marking.left;

@@ -2,7 +2,6 @@
 #![tactic(auto)]
 
 ghost use Rattle.std.specs.Prelude.{◌≡◌, ◌<◌, ◌≤◌, length};
-ghost use Rattle.lists.specs.Lists.{choose};
 ghost use Rattle.literals.specs.Inside.Words.{set_of};
 ghost use Rattle.program.specs.Program.{Program};
 ghost use Rattle.program.specs.Inside.Table.{Holds, Shaped};
@@ -44,12 +43,10 @@ fn strict_rules(table: &RuleTable) -> LiteralSet
 {
     let rules = program::rule_count(table);
     let mut s = LiteralSet::empty();
-    let mut i: u64 = 0;
-    while i < rules {
+    for i in 0..rules {
         if program::need(table, i) == 0 {
             s = s.insert(i);
         }
-        i += 1;
     }
     s
 }
@@ -62,10 +59,8 @@ fn prune(table: &RuleTable, all: LiteralSet) -> LiteralSet
 {
     let rules = program::rule_count(table);
     let mut kept = all;
-    let mut n = rules;
-    while 0 < n {
-        kept = leave_out(table, kept, n - 1);
-        n -= 1;
+    for n in (0..rules).rev() {
+        kept = leave_out(table, kept, n);
     }
     kept
 }
@@ -106,13 +101,11 @@ fn select(table: &RuleTable, chosen: LiteralSet, part: &mut RuleTable)
 {
     let rules = program::rule_count(table);
     let mut n: u64 = 0;
-    let mut i: u64 = 0;
-    while i < rules {
+    for i in 0..rules {
         if chosen.has(i) {
             program::store_row(part, n, program::head(table, i), program::body(table, i), 0);
             n += 1;
         }
-        i += 1;
     }
     program::store_counts(part, n, 0, program::atom_count(table));
 }
@@ -122,15 +115,7 @@ fn mark(marks: &mut [u8], small: LiteralSet, rules: usize)
     requires { (rules ≤ 96) × (rules ≤ length marks.old) }
     ensures { marks.new ≡ front (marks_from (set_of small) 0 rules) marks.old }
 {
-    let mut i: usize = 0;
-    while i < rules {
-        marks[i] = byte(small.has(i as u64));
-        i += 1;
+    for i in 0..rules {
+        marks[i] = u8::from(small.has(i as u64));
     }
-}
-
-fn byte(marked: bool) -> u8
-    ensures { result ≡ choose marked 1 0 }
-{
-    if marked { 1 } else { 0 }
 }

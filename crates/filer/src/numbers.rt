@@ -9,8 +9,7 @@ pub fn invert(numbers: &[u8], count: usize, places: &mut [u8]) -> bool
     requires { (count ≤ length numbers.now) × (count ≤ length places.old) × (count ≤ 255) × ((k : ℕ) → k < count → get_or places.old k 0 ≡ 255) }
     ensures { (result ≡ not (bad_numbers count (take count numbers.now))) × (result ≡ true → (i : ℕ) → i < count → get_or places.new (get_or numbers.now i 0) 0 ≡ i) }
 {
-    let mut i: usize = 0;
-    while i < count {
+    for i in 0..count {
         let number = wide(numbers[i]) as usize;
         if number >= count {
             return false;
@@ -19,7 +18,6 @@ pub fn invert(numbers: &[u8], count: usize, places: &mut [u8]) -> bool
             return false;
         }
         places[number] = i as u8;
-        i += 1;
     }
     true
 }

@@ -5,6 +5,3 @@ use Rattle.clash.proofs.prune.Given as goal
 
 abbrev pub invariant-loop-n : goal.invariant-loop-n
 invariant-loop-n l = Pruning l.table (set_of l.initial.kept) l.n (set_of l.kept)
-
-abbrev pub decreases-loop-n : goal.decreases-loop-n
-decreases-loop-n l = l.n

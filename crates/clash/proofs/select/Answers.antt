@@ -8,23 +8,8 @@ use Rattle.clash.proofs.select.Goals.{then-has, else-has}
 pub loop-i-init : goal.loop-i-init
 loop-i-init c = selecting_start _ _ _ c.rule_count-rules.ensures _ c.requires.part_len
 
-pub has-requires : goal.has-requires
-has-requires c = omega (arith, c.rule_count-rules.ensures, c.requires.shaped.few)
-
-pub head-requires : goal.head-requires
-head-requires c = omega (arith, c.rule_count-rules.ensures, c.requires.shaped.few)
-
-pub body-requires : goal.body-requires
-body-requires c = omega (arith, c.rule_count-rules.ensures, c.requires.shaped.few)
-
 pub store_row-requires : goal.store_row-requires
 store_row-requires c = omega (arith, c.loop-i.invariant.few, c.rule_count-rules.ensures, c.requires.shaped.few)
-
-pub overflow_add-i : goal.overflow_add-i
-overflow_add-i c = omega arith
-
-pub loop-i-smaller : goal.loop-i-smaller
-loop-i-smaller c = omega arith
 
 pub loop-i-preserved : goal.loop-i-preserved
 loop-i-preserved c =

@@ -9,18 +9,6 @@ use Rattle.clash.proofs.strict_rules.Goals.{then-need-eq0, else-need-eq0}
 pub loop-i-init : goal.loop-i-init
 loop-i-init c = sorting_start _ _ c.rule_count-rules.ensures _ c.empty-s.ensures
 
-pub need-requires : goal.need-requires
-need-requires c = omega (arith, c.rule_count-rules.ensures, c.requires.few)
-
-pub insert-s-requires : goal.insert-s-requires
-insert-s-requires c = omega (arith, c.rule_count-rules.ensures, c.requires.few)
-
-pub overflow_add-i : goal.overflow_add-i
-overflow_add-i c = omega arith
-
-pub loop-i-smaller : goal.loop-i-smaller
-loop-i-smaller c = omega arith
-
 pub loop-i-preserved : goal.loop-i-preserved
 loop-i-preserved c =
     sorting_next _ _ c.rule_count-rules.ensures c.loop-i.i (set_of c.loop-i.s) _ c.loop-i-test.true c.need.ensures

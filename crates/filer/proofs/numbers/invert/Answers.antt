@@ -4,31 +4,16 @@ use native.Mathlib.Omega.{arith}
 use Rattle.filer.proofs.numbers.invert.Goals as goal
 
 pub loop-i-init : goal.loop-i-init
-loop-i-init c = (placing_none _ _ _ c.requires.3, omega arith)
-
-pub shape_of-places-then-number-count : goal.shape_of-places-then-number-count
-shape_of-places-then-number-count c = c.loop-i.invariant.0.kept
+loop-i-init c = placing_none _ _ _ c.requires.3
 
 pub returns-then-number-count : goal.returns-then-number-count
 returns-then-number-count c = (placing_far _ _ c.requires.0 c.requires.2 c.loop-i.i _ c.loop-i-test.true c.wide-number.ensures.0 c.if-number-count.true, λ e. absurd (false≢true e))
 
-pub bounds-places-number : goal.bounds-places-number
-bounds-places-number c = omega (arith, c.if-number-count.false, c.loop-i.invariant.0.kept, c.requires.1)
-
-pub shape_of-places-then-places-number : goal.shape_of-places-then-places-number
-shape_of-places-then-places-number c = c.loop-i.invariant.0.kept
-
 pub returns-then-places-number : goal.returns-then-places-number
-returns-then-places-number c = (placing_again _ _ c.requires.0 c.requires.2 _ _ c.loop-i.i _ c.loop-i-test.true c.wide-number.ensures.0 (omega (arith, c.if-number-count.false)) c.if-places-number.true c.loop-i.invariant.0, λ e. absurd (false≢true e))
-
-pub bounds-places-number-in-loop-i : goal.bounds-places-number-in-loop-i
-bounds-places-number-in-loop-i c = omega (arith, c.if-number-count.false, c.loop-i.invariant.0.kept, c.requires.1)
+returns-then-places-number c = (placing_again _ _ c.requires.0 c.requires.2 _ _ c.loop-i.i _ c.loop-i-test.true c.wide-number.ensures.0 (omega (arith, c.if-number-count.false)) c.if-places-number.true c.loop-i.invariant, λ e. absurd (false≢true e))
 
 pub loop-i-preserved : goal.loop-i-preserved
-loop-i-preserved c = (placing_next _ _ c.requires.0 c.requires.2 _ _ c.loop-i.i _ c.requires.1 c.loop-i-test.true c.wide-number.ensures.0 (omega (arith, c.if-number-count.false)) c.if-places-number.false c.loop-i.invariant.0, omega (arith, c.loop-i-test.true))
-
-pub shape_of-places : goal.shape_of-places
-shape_of-places c = c.loop-i.invariant.0.kept
+loop-i-preserved c = placing_next _ _ c.requires.0 c.requires.2 _ _ c.loop-i.i _ c.requires.1 c.loop-i-test.true c.wide-number.ensures.0 (omega (arith, c.if-number-count.false)) c.if-places-number.false c.loop-i.invariant
 
 pub returns : goal.returns
-returns c = placing_done _ _ c.requires.0 c.requires.2 _ _ c.loop-i.i c.loop-i.invariant.1 c.loop-i-test.false c.loop-i.invariant.0
+returns c = placing_done _ _ c.requires.0 c.requires.2 _ _ c.loop-i.i (omega arith) c.loop-i-test.false c.loop-i.invariant

@@ -1,10 +1,6 @@
 -- The first numbers are below the count and have their places; no other has one.
-use Prim.Native.Nat.{◌-◌, ◌≤◌}
 use Rattle.filer.proofs.Renumberings.{Placing}
 use Rattle.filer.proofs.numbers.invert.Given as goal
 
 abbrev pub invariant-loop-i : goal.invariant-loop-i
-invariant-loop-i l = Placing l.numbers l.initial.places l.places l.count l.i × (l.i ≤ l.count)
-
-abbrev pub decreases-loop-i : goal.decreases-loop-i
-decreases-loop-i l = l.count - l.i
+invariant-loop-i l = Placing l.numbers l.initial.places l.places l.count l.i
