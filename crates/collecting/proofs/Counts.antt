@@ -10,11 +10,9 @@ use lib.Bits.{bit_and, and_le_l}
 use lib.Count.{ones}
 use lib.ListN.{length, length-append}
 use Rattle.lists.specs.Lists.{choose, keep}
-use Rattle.literals.specs.Sets.{has, minus, within, Lowest}
-use Rattle.literals.specs.Inside.Words.{joined}
+use Rattle.literals.specs.Sets.{has, minus, within, LowestBelow}
 use Rattle.literals.proofs.Members.{has_empty}
 use Rattle.literals.proofs.Within.{within_le}
-use Rattle.literals.proofs.Words.{has_joined_low, has_joined_high}
 use Rattle.argument.specs.List.{picked, list_by}
 use Rattle.listing.proofs.Picks.{members_length}
 use Rattle.rows.proofs.Submasks.{next_submask}
@@ -103,9 +101,9 @@ word_few t l w = sum_le (λ m. one (argues t m l)) 1 (64 * w) 64 (λ m. one_le (
 pub row_few : (t : List ℕ) (l : ℕ) → row_count t l ≤ 65536
 row_few t l = sum_le (word_count t l) 64 0 1024 (word_few t l)
 
-pub literals_few : (t : List ℕ) (first word : ℕ) → literals_count t first word ≤ 4194304
-literals_few t first word =
-    sum_le (only ℕ 0 word (λ b. row_count t (first + b))) 65536 0 64 (λ b. each (has word b) (row_count t (first + b)) (row_few t (first + b)))
+pub literals_few : (t : List ℕ) (s : ℕ) → literals_count t s ≤ 8388608
+literals_few t s =
+    sum_le (only ℕ 0 s (row_count t)) 65536 0 128 (λ l. each (has s l) (row_count t l) (row_few t l))
   where
     each : (s : Bool) (n : ℕ) → n ≤ 65536 → choose s n 0 ≤ 65536
     each true n h = h
@@ -157,15 +155,13 @@ module _ (t : List ℕ) (l : ℕ) where
       sum_zero : sum (word_count t l) 0 0 ≡ 0
       sum_zero = sum_none (word_count t l) 0 0 (λ j a b. absurd (omega arith))
 
--- ---- the literals of a word
+-- ---- the literals of a set
 
-module _ (t : List ℕ) (first : ℕ) where
-  pub literals_next : (left b : ℕ) → Lowest left b
-      → literals_count t first left ≡ row_count t (first + b) + literals_count t first (minus left (2 ^ b))
-  literals_next left b lowest = fold_lowest ℕ ◌+◌ 0 zero-add add_assoc (λ b. row_count t (first + b)) left b lowest 64 lowest.small
+pub literals_next : (t : List ℕ) (s l : ℕ) → LowestBelow 128 s l → literals_count t s ≡ row_count t l + literals_count t (minus s (2 ^ l))
+literals_next t s l lowest = fold_lowest ℕ ◌+◌ 0 zero-add add_assoc (row_count t) 128 s l lowest
 
-  pub literals_none : (left : ℕ) → left ≡ 0 → literals_count t first left ≡ 0
-  literals_none left e = fold_empty ℕ ◌+◌ 0 zero-add add_assoc (λ b. row_count t (first + b)) left 64 e
+pub literals_none : (t : List ℕ) (s : ℕ) → s ≡ 0 → literals_count t s ≡ 0
+literals_none t s e = fold_empty ℕ ◌+◌ 0 zero-add add_assoc (row_count t) s 128 e
 
 -- ---- the list
 
@@ -183,22 +179,9 @@ row_sum t s h = go (has s h)
     go true = fold_blocks ℕ ◌+◌ 0 zero-add add_assoc (λ m. one (argues t m h)) 0 1024
     go false = sum_none (λ m. 0) 0 65536 (λ j a b. refl)
 
-pub list_count : (t : List ℕ) (hi lo : ℕ) → lo < 2 ^ 64 → length (list_of t (joined hi lo)) ≡ literals_count t 0 lo + literals_count t 64 hi
+pub list_count : (t : List ℕ) (s : ℕ) → length (list_of t s) ≡ literals_count t s
 unfolding list_of
-list_count t hi lo small =
+list_count t s =
     listed_length (argues_for t s) 0 65536
     ∙ sum_swap (λ m h. one (argues_for t s m h)) 0 65536 0 128
-    ∙ sum_ext (λ h. sum (λ m. one (argues_for t s m h)) 0 65536) all 0 128 (λ h a b. row_sum t s h)
-    ∙ sum_split all 0 64 64
-    ∙ ap₂ ◌+◌
-    (sum_ext all (only ℕ 0 lo (λ b. row_count t (0 + b))) 0 64 (λ h a b.
-    ap₂ (λ (c : Bool) (x : ℕ). choose c (row_count t x) 0) (has_joined_low hi lo h (omega arith)) (sym (zero-add h))))
-    (sum_from all 64 64
-    ∙ sum_ext (λ b. all (64 + b)) (only ℕ 0 hi (λ b. row_count t (64 + b))) 0 64 (λ h a b.
-    ap (λ (c : Bool). choose c (row_count t (64 + h)) 0) (has_joined_high hi lo h small)))
-  where
-    s : ℕ
-    s = joined hi lo
-
-    all : ℕ → ℕ
-    all h = choose (has (joined hi lo) h) (row_count t h) 0
+    ∙ sum_ext (λ h. sum (λ m. one (argues_for t s m h)) 0 65536) (only ℕ 0 s (row_count t)) 0 128 (λ h a b. row_sum t s h)

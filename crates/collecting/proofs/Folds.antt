@@ -7,7 +7,7 @@ use native.Mathlib.Nat.{eq-or-lt_of_le, add-zero, zero-add, suc-add, add-suc}
 use native.Mathlib.Omega.{arith}
 use borrow.Author.Tests.{eq-eqb, ne_eqb}
 use Rattle.lists.specs.Lists.{choose}
-use Rattle.literals.specs.Sets.{has, minus, Lowest}
+use Rattle.literals.specs.Sets.{has, minus, LowestBelow}
 use Rattle.literals.proofs.Members.{has_empty, has_minus_power}
 use Rattle.collecting.specs.Inside.Folds.{fold_from, only}
 
@@ -75,7 +75,7 @@ module _ (A : Type 0) (join : A → A → A) (none : A) (unit : (x : A) → join
       fold_none (only A none s f) 0 n (λ j a b. ap (λ (t : Bool). choose t (f j) none) (ap (λ (x : ℕ). has x j) e ∙ has_empty j))
 
   -- the lowest member first, and then the others
-  module _ (f : ℕ → A) (s b : ℕ) (lowest : Lowest s b) where
+  module _ (f : ℕ → A) (n s b : ℕ) (lowest : LowestBelow n s b) where
     less : ℕ
     less = minus s (2 ^ b)
 
@@ -111,6 +111,6 @@ module _ (A : Type 0) (join : A → A → A) (none : A) (unit : (x : A) → join
             ∙ ap (λ (x : A). join x (run (pick less) (suc k) n))
             (sym (ap (λ (t : Bool). choose t (f k) none) (sym (other k (λ z. omega arith)) ∙ lowest.least k l))))
 
-    pub fold_lowest : (n : ℕ) → b < n → run (only A none s f) 0 n ≡ join (f b) (run (only A none (minus s (2 ^ b)) f) 0 n)
+    pub fold_lowest : run (only A none s f) 0 n ≡ join (f b) (run (only A none (minus s (2 ^ b)) f) 0 n)
     unfolding less pick
-    fold_lowest n l = from 0 n (omega arith) (omega arith)
+    fold_lowest = from 0 n (omega arith) (omega (arith, lowest.small))

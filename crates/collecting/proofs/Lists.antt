@@ -44,7 +44,7 @@ module _ (f : ℕ → List ℕ) (before after whole : List ℕ) (at next left : 
   module _ (b : ℕ) (lowest : Lowest left b) (x : List ℕ) (e : x ≡ f b) where
     first : lists (only (List ℕ) [] left f) 0 64 ≡ x ++ lists (only (List ℕ) [] (minus left (2 ^ b)) f) 0 64
     first =
-        fold_lowest (List ℕ) ◌++◌ [] unit append_assoc f left b lowest 64 lowest.small
+        fold_lowest (List ℕ) ◌++◌ [] unit append_assoc f 64 left b lowest
         ∙ ap (λ (y : List ℕ). y ++ lists (only (List ℕ) [] (minus left (2 ^ b)) f) 0 64) (sym e)
 
     pub parts_room : at + length whole ≤ length before → next + length x ≤ length after

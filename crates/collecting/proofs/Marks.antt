@@ -4,7 +4,7 @@ use mathlib.Core.Bool.{true, not}
 use mathlib.Core.List.{List}
 use mathlib.Core.Logic.{◌⊎◌, inl, inr, ⊎_elim}
 use Prim.Native.Nat.{ℕ, ◌+◌, ◌-◌, ◌*◌, ◌/◌, ◌%◌, ◌^◌, ◌<◌, ◌≤◌}
-use native.Mathlib.Nat.{eq-or-lt_of_le, zero-add}
+use native.Mathlib.Nat.{eq-or-lt_of_le}
 use native.Mathlib.Decide.{ℕ_discrete, dec_lt}
 use native.Mathlib.Omega.{arith}
 use lib.Bits.{bit_and}
@@ -13,51 +13,28 @@ use lib.ListN.{length, get_or, set, length-set}
 use lib.Seq.{get_or-set_same, get_or-set_other}
 use borrow.Author.Tests.{ne_eqb}
 use Rattle.literals.specs.Sets.{has, insert, minus, within}
-use Rattle.literals.specs.Inside.Words.{joined}
 use Rattle.literals.proofs.Tests.{and_intro}
-use Rattle.literals.proofs.Members.{has_bound, has_not_empty, has_minus_power, has_insert_same, insert_keeps}
+use Rattle.literals.proofs.Members.{has_not_empty, has_minus_power, has_insert_same, insert_keeps}
 use Rattle.literals.proofs.Within.{within_le, minus_within, within_each}
-use Rattle.literals.proofs.Words.{has_joined_low, has_joined_high}
 use Rattle.rows.proofs.Submasks.{next_submask}
 use Rattle.closures.specs.Inside.Table.{keeps_at}
-use Rattle.collecting.specs.Inside.Columns.{argues, Word, marked, Marks, Literals, Members, InWord, InRow}
+use Rattle.collecting.specs.Inside.Columns.{argues, Word, marked, Marks, Members, InWord, InRow}
 use Rattle.collecting.proofs.Told.{argues_kept}
 
--- ---- the literals of words and sets
+-- ---- the literals of a set
 
-pub literals_split : (first left b l : ℕ) → Literals first left l → (l ≡ first + b) ⊎ Literals first (minus left (2 ^ b)) l
-literals_split first left b l (j, e, h) = go (ℕ_discrete j b)
+pub members_split : (s b l : ℕ) → Members s l → (l ≡ b) ⊎ Members (minus s (2 ^ b)) l
+members_split s b l (small, h) = go (ℕ_discrete l b)
   where
-    go : Dec (j ≡ b) → (l ≡ first + b) ⊎ Literals first (minus left (2 ^ b)) l
-    go (yes q) = inl (e ∙ ap (λ (x : ℕ). first + x) q)
-    go (no q) = inr (j, e, has_minus_power left b j ∙ and_intro (has left j) (not (eqb j b)) h (ap not (ne_eqb j b q)))
+    go : Dec (l ≡ b) → (l ≡ b) ⊎ Members (minus s (2 ^ b)) l
+    go (yes q) = inl q
+    go (no q) = inr (small, has_minus_power s b l ∙ and_intro (has s l) (not (eqb l b)) h (ap not (ne_eqb l b q)))
 
-pub literals_fewer : (first left b l : ℕ) → Literals first (minus left (2 ^ b)) l → Literals first left l
-literals_fewer first left b l (j, e, h) = (j, e, within_each (minus left (2 ^ b)) left (minus_within left (2 ^ b)) j h)
+pub members_fewer : (s b l : ℕ) → Members (minus s (2 ^ b)) l → Members s l
+members_fewer s b l (small, h) = (small, within_each (minus s (2 ^ b)) s (minus_within s (2 ^ b)) l h)
 
-pub literals_none : (first left l : ℕ) → left ≡ 0 → Literals first left l → ⊥
-literals_none first left l e (j, q, h) = has_not_empty left j h e
-
-module _ (hi lo : ℕ) (low : lo < 2 ^ 64) (high : hi < 2 ^ 64) (l : ℕ) where
-  pub members_split : Members (joined hi lo) l → Literals 0 lo l ⊎ Literals 64 hi l
-  members_split (small, h) = go (dec_lt l 64)
-    where
-      go : Dec (l < 64) → Literals 0 lo l ⊎ Literals 64 hi l
-      go (yes q) = inl (l, sym (zero-add l), sym (has_joined_low hi lo l q) ∙ h)
-      go (no q) =
-          let e : l ≡ 64 + (l - 64) = omega arith in
-          inr (l - 64, e, sym (has_joined_high hi lo (l - 64) low) ∙ ap (has (joined hi lo)) (sym e) ∙ h)
-
-  pub low_member : Literals 0 lo l → Members (joined hi lo) l
-  low_member (b, e, h) =
-      let small = has_bound lo 64 b low h in
-      let same : b ≡ l = omega arith in
-      (omega arith, ap (has (joined hi lo)) (sym same) ∙ has_joined_low hi lo b small ∙ h)
-
-  pub high_member : Literals 64 hi l → Members (joined hi lo) l
-  high_member (b, e, h) =
-      let small = has_bound hi 64 b high h in
-      (omega arith, ap (has (joined hi lo)) e ∙ has_joined_high hi lo b low ∙ h)
+pub members_none : (s l : ℕ) → s ≡ 0 → Members s l → ⊥
+members_none s l e (small, h) = has_not_empty s l h e
 
 -- ---- marks
 
@@ -138,19 +115,12 @@ module _ (t : List ℕ) (literal span : ℕ) (is : span ≡ keeps_at t literal) 
     covers = λ l m (e, small, h) g. marks.covers l m (e, let q : m / 64 ≡ w = omega arith in q) g;
   }
 
--- a literal, then the others of its word
-pub marks_literal : (t : List ℕ) (first left b : ℕ) (a m c : List ℕ) → Marks t (InRow (λ l. l ≡ first + b)) a m
-    → Marks t (InRow (Literals first (minus left (2 ^ b)))) m c → Marks t (InRow (Literals first left)) a c
-marks_literal t first left b a m c =
-    marks_then t (InRow (λ l. l ≡ first + b)) (InRow (Literals first (minus left (2 ^ b)))) (InRow (Literals first left)) a m c (λ l n (e, small) g.
-    ⊎_elim (λ q. inl (q, small)) (λ q. inr (q, small)) (literals_split first left b l e))
+-- a literal, then the others of its set
+pub marks_literal : (t : List ℕ) (s b : ℕ) (u m v : List ℕ) → Marks t (InRow (λ l. l ≡ b)) u m
+    → Marks t (InRow (Members (minus s (2 ^ b)))) m v → Marks t (InRow (Members s)) u v
+marks_literal t s b u m v =
+    marks_then t (InRow (λ l. l ≡ b)) (InRow (Members (minus s (2 ^ b)))) (InRow (Members s)) u m v (λ l n (e, small) g.
+    ⊎_elim (λ q. inl (q, small)) (λ q. inr (q, small)) (members_split s b l e))
 
-pub marks_end : (t : List ℕ) (first left : ℕ) (u : List ℕ) → left ≡ 0 → Marks t (InRow (Literals first left)) u u
-marks_end t first left u e = marks_none t (InRow (Literals first left)) u (λ l m (q, small) g. literals_none first left l e q)
-
--- the low word, then the high one
-pub marks_both : (t : List ℕ) (hi lo : ℕ) → lo < 2 ^ 64 → hi < 2 ^ 64 → (a b c : List ℕ) → Marks t (InRow (Literals 0 lo)) a b
-    → Marks t (InRow (Literals 64 hi)) b c → Marks t (InRow (Members (joined hi lo))) a c
-marks_both t hi lo low high a b c =
-    marks_then t (InRow (Literals 0 lo)) (InRow (Literals 64 hi)) (InRow (Members (joined hi lo))) a b c (λ l m (e, small) g.
-    ⊎_elim (λ q. inl (q, small)) (λ q. inr (q, small)) (members_split hi lo low high l e))
+pub marks_end : (t : List ℕ) (s : ℕ) (u : List ℕ) → s ≡ 0 → Marks t (InRow (Members s)) u u
+marks_end t s u e = marks_none t (InRow (Members s)) u (λ l m (q, small) g. members_none s l e q)

@@ -6,13 +6,12 @@ use mathlib.Core.Logic.{◌⊎◌, inl, inr, ⊎_elim}
 use Prim.Native.Nat.{ℕ, ◌+◌, ◌*◌, ◌^◌, ◌<◌}
 use lib.Bits.{bit_or}
 use Rattle.lists.specs.Lists.{choose}
-use Rattle.literals.specs.Sets.{has, insert, minus}
-use Rattle.literals.specs.Inside.Words.{joined}
+use Rattle.literals.specs.Sets.{has, insert, minus, LowestBelow}
 use Rattle.literals.proofs.Tests.{or_left, or_right}
 use Rattle.literals.proofs.Members.{has_cases, has_union, insert_cases, insert_keeps, has_insert_same}
 use Rattle.argument.specs.Inside.Sets.{set_at}
-use Rattle.collecting.specs.Inside.Columns.{argues, Word, Put, Turned, Literals, Members}
-use Rattle.collecting.proofs.Marks.{literals_split, literals_fewer, literals_none, members_split, low_member, high_member}
+use Rattle.collecting.specs.Inside.Columns.{argues, Word, Put, Turned, Members}
+use Rattle.collecting.proofs.Marks.{members_split, members_fewer, members_none}
 
 module _ (t : List ℕ) (w : ℕ) where
   pub turned_none : (Some : ℕ → Type 0) (c : List ℕ) (x : ℕ) → ((h : ℕ) → Some h → ⊥) → Turned t w Some c c x x
@@ -60,19 +59,12 @@ module _ (t : List ℕ) (w : ℕ) where
       chosen : (k : ℕ) → k < 64 → (b : Bool) → has x k ≡ b → set_at d k ≡ choose b (insert (set_at c k) l) (set_at c k)
       chosen k s b e = put.column k s ∙ ap (λ (t : Bool). choose t (insert (set_at c k) l) (set_at c k)) e
 
-  -- a literal, then the others of its word
-  pub turned_literal : (first left b : ℕ) → has left b ≡ true → (c d e : List ℕ) (x y z : ℕ) → Turned t w (λ h. h ≡ first + b) c d x y
-      → Turned t w (Literals first (minus left (2 ^ b))) d e y z → Turned t w (Literals first left) c e x z
-  turned_literal first left b member c d e x y z =
-      turned_then (λ h. h ≡ first + b) (Literals first (minus left (2 ^ b))) (Literals first left) c d e x y z
-      (literals_split first left b) (λ h q. (b, q, member)) (literals_fewer first left b)
+  -- a literal, then the others of its set
+  pub turned_literal : (s b : ℕ) → LowestBelow 128 s b → (c d e : List ℕ) (x y z : ℕ) → Turned t w (λ h. h ≡ b) c d x y
+      → Turned t w (Members (minus s (2 ^ b))) d e y z → Turned t w (Members s) c e x z
+  turned_literal s b lowest c d e x y z =
+      turned_then (λ h. h ≡ b) (Members (minus s (2 ^ b))) (Members s) c d e x y z
+      (members_split s b) (λ h q. rw q (lowest.small, lowest.member)) (members_fewer s b)
 
-  pub turned_end : (first left : ℕ) (c : List ℕ) (x : ℕ) → left ≡ 0 → Turned t w (Literals first left) c c x x
-  turned_end first left c x e = turned_none (Literals first left) c x (λ h. literals_none first left h e)
-
-  -- the low word, then the high one
-  pub turned_both : (hi lo : ℕ) → lo < 2 ^ 64 → hi < 2 ^ 64 → (c d e : List ℕ) (x y z : ℕ) → Turned t w (Literals 0 lo) c d x y
-      → Turned t w (Literals 64 hi) d e y z → Turned t w (Members (joined hi lo)) c e x z
-  turned_both hi lo low high c d e x y z =
-      turned_then (Literals 0 lo) (Literals 64 hi) (Members (joined hi lo)) c d e x y z (members_split hi lo low high)
-      (low_member hi lo low high) (high_member hi lo low high)
+  pub turned_end : (s : ℕ) (c : List ℕ) (x : ℕ) → s ≡ 0 → Turned t w (Members s) c c x x
+  turned_end s c x e = turned_none (Members s) c x (λ h. members_none s h e)

@@ -13,14 +13,14 @@ ghost use Rattle.argument.specs.List.{argument_list};
 ghost use Rattle.listing.specs.Inside.Listing.{listed, with_list};
 ghost use Rattle.closures.specs.Inside.Table.{keeps_at, Laid, Tells};
 ghost use Rattle.collecting.specs.Inside.Columns.{Derivable, Word, word_count, row_count, literals_count, list_of, word_list, words_list};
-ghost use Rattle.collecting.specs.Inside.Columns.{Marks, Literals, Members, InWord, InRow, Marked, Put, Turned, columns_list};
+ghost use Rattle.collecting.specs.Inside.Columns.{Marks, Members, InWord, InRow, Marked, Put, Turned, columns_list};
 
-use listing::{Listed, arguments};
+use listing::arguments;
 use literals::{LiteralSet, masks};
 
-// Writes the argument list; `literals` has every literal that some mask derives. They are counted first, so that a table that
-// is too short is left as it was.
-pub fn list(rows: &[u64], literals: LiteralSet, arguments: &mut [u32]) -> Listed
+// Writes the argument list and returns the number of arguments; `literals` has every literal that some mask derives. They are
+// counted first: a table that is too short is left as it was, and there is no number.
+pub fn list(rows: &[u64], literals: LiteralSet, arguments: &mut [u32]) -> Option<u32>
     requires { Laid rows.now }
     ensures result { (p : Program) → Limits p → Tells p.rules rows.now → Derivable p.rules (set_of literals)
         → result ≡ listed (argument_list p.rules) arguments.old }
@@ -30,10 +30,10 @@ pub fn list(rows: &[u64], literals: LiteralSet, arguments: &mut [u32]) -> Listed
     let mut touched = [0u64; 16];
     let count = count(rows, literals, &mut touched);
     if arguments.len() < count as usize {
-        return Listed::Over;
+        return None;
     }
     write(rows, literals, &touched, arguments);
-    Listed::Count(count)
+    Some(count)
 }
 
 // How many arguments there are; marks the words that have some.
@@ -42,24 +42,11 @@ fn count(rows: &[u64], literals: LiteralSet, touched: &mut [u64]) -> u32
     ensures value { result ≡ length (list_of rows.now (set_of literals)) }
     ensures marks { Marks rows.now (InRow (Members (set_of literals))) touched.old touched.new }
 {
-    let low = count_literals(rows, literals.lo, 0, touched);
-    let high = count_literals(rows, literals.hi, 64, touched);
-    (low + high) as u32
-}
-
-// The arguments for the literals of a word, the first of which is literal `first`.
-fn count_literals(rows: &[u64], word: u64, first: u64, touched: &mut [u64]) -> u64
-    requires { (Laid rows.now) × (first ≤ 64) × (length touched.old ≡ 16) }
-    ensures value { (result ≡ literals_count rows.now first word) × (result ≤ 4194304) }
-    ensures marks { Marks rows.now (InRow (Literals first word)) touched.old touched.new }
-{
     let mut found: u64 = 0;
-    let mut left = word;
-    while left != 0 {
-        found += count_row(rows, first + masks::lowest(left), touched);
-        left = masks::rest(left);
+    for literal in literals {
+        found += count_row(rows, literal, touched);
     }
-    found
+    found as u32
 }
 
 // The arguments for one literal: the words of its row, in descending order.
@@ -117,10 +104,8 @@ fn write(rows: &[u64], literals: LiteralSet, touched: &[u64], arguments: &mut [u
     ensures { arguments.new ≡ sets arguments.old 0 (list_of rows.now (set_of literals)) }
 {
     let mut at: usize = 0;
-    let mut i: u64 = 0;
-    while i < 16 {
+    for i in 0..16 {
         at = write_words(rows, literals, touched[i as usize], i, at, arguments);
-        i += 1;
     }
 }
 
@@ -138,16 +123,8 @@ fn write_words(
     ensures { Written arguments.old arguments.new at result (words_list rows.now (set_of literals) touched i) }
 {
     let mut next = at;
-    let mut left = touched;
-    while left != 0 {
-        next = write_word(
-            rows,
-            literals,
-            64 * i + masks::lowest(left),
-            next,
-            arguments,
-        );
-        left = masks::rest(left);
+    for b in masks::bits(touched) {
+        next = write_word(rows, literals, 64 * i + b, next, arguments);
     }
     next
 }
@@ -170,12 +147,9 @@ fn write_columns(columns: &[u64], masks: u64, w: u64, at: usize, arguments: &mut
     ensures { Written arguments.old arguments.new at result (columns_list columns.now masks w) }
 {
     let mut next = at;
-    let mut left = masks;
-    while left != 0 {
-        let k = masks::lowest(left);
+    for k in masks::bits(masks) {
         let literals = argument::sets::entry(columns, k);
         next = arguments::write_set(arguments, next, (64 * w + k) * 128, literals);
-        left = masks::rest(left);
     }
     next
 }
@@ -185,28 +159,9 @@ fn turn(rows: &[u64], literals: LiteralSet, w: u64, columns: &mut [u64]) -> u64
     requires { (Laid rows.now) × (w < 1024) × (length columns.old ≡ 128) }
     ensures { Turned rows.now w (Members (set_of literals)) columns.old columns.new 0 result }
 {
-    let low = turn_literals(rows, literals.lo, 0, w, 0, columns);
-    turn_literals(rows, literals.hi, 64, w, low, columns)
-}
-
-// The same for the literals of a word, the first of which is literal `first`; `found` are the masks that have some already.
-fn turn_literals(
-    rows: &[u64],
-    word: u64,
-    first: u64,
-    w: u64,
-    found: u64,
-    columns: &mut [u64],
-) -> u64
-    requires laid { (Laid rows.now) × (w < 1024) × (length columns.old ≡ 128) }
-    requires first_bound { first ≤ 64 }
-    ensures { Turned rows.now w (Literals first word) columns.old columns.new found result }
-{
-    let mut masks = found;
-    let mut left = word;
-    while left != 0 {
-        masks = turn_row(rows, first + masks::lowest(left), w, columns) | masks;
-        left = masks::rest(left);
+    let mut masks: u64 = 0;
+    for literal in literals {
+        masks = turn_row(rows, literal, w, columns) | masks;
     }
     masks
 }
@@ -230,12 +185,10 @@ fn put(columns: &mut [u64], l: u64, x: u64)
     requires { (l < 128) × (length columns.old ≡ 128) }
     ensures { Put l x columns.old columns.new }
 {
-    let mut left = x;
-    while left != 0 {
-        let at = (2 * masks::lowest(left)) as usize;
+    for k in masks::bits(x) {
+        let at = (2 * k) as usize;
         let s = LiteralSet::of_words(columns[at], columns[at + 1]).insert(l);
         columns[at] = s.lo;
         columns[at + 1] = s.hi;
-        left = masks::rest(left);
     }
 }

@@ -10,7 +10,7 @@ use lib.ListN.{length, drop}
 use lib.Seq.{sets, sets-eq}
 use borrow.Author.Tests.{le-leb, lt-leb}
 use Rattle.lists.specs.Lists.{choose}
-use Rattle.listing.specs.declared.Listed.TheVariants.{Count, Over}
+use Rattle.std.specs.Prelude.{Some, None}
 use Rattle.listing.specs.Inside.Listing.{listed, with_list}
 
 -- l is the list, k the one that was read and n its length
@@ -22,8 +22,8 @@ module _ (l k table : List ℕ) (n : ℕ) (read : k ≡ l) (counted : n ≡ leng
     over : leb (length l) (length table) ≡ false
     over = lt-leb (length l) (length table) (subst (λ (x : ℕ). length table < x) count short)
 
-    pub listed_over : Over ≡ listed l table
-    listed_over = ap (λ (b : Bool). choose b (Count (length l)) Over) (sym over)
+    pub listed_over : None ≡ listed l table
+    listed_over = ap (λ (b : Bool). choose b (Some (length l)) None) (sym over)
 
     pub kept_over : table ≡ with_list l table
     kept_over = ap (λ (b : Bool). choose b (l ++ drop (length l) table) table) (sym over)
@@ -32,8 +32,8 @@ module _ (l k table : List ℕ) (n : ℕ) (read : k ≡ l) (counted : n ≡ leng
     fits : leb (length l) (length table) ≡ true
     fits = le-leb (length l) (length table) (subst (λ (x : ℕ). x ≤ length table) count long)
 
-    pub listed_count : Count n ≡ listed l table
-    listed_count = ap Count count ∙ ap (λ (b : Bool). choose b (Count (length l)) Over) (sym fits)
+    pub listed_count : Some n ≡ listed l table
+    listed_count = ap Some count ∙ ap (λ (b : Bool). choose b (Some (length l)) None) (sym fits)
 
     pub written_list : (after : List ℕ) → after ≡ sets table 0 k → after ≡ with_list l table
     written_list after e =

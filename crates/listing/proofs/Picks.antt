@@ -4,7 +4,7 @@ use mathlib.Core.Bool.{Bool, true, false, not, ◌&&◌}
 use mathlib.Core.List.{List, [], ◌∷◌, ◌++◌}
 use mathlib.Core.Logic.{◌⊎◌, inl, inr}
 use Prim.Native.Nat.{ℕ, zero, suc, ◌+◌, ◌-◌, ◌*◌, ◌/◌, ◌^◌, ◌<◌, ◌≤◌}
-use native.Mathlib.Nat.{eq-or-lt_of_le, add-zero, zero-add, add-suc, suc-add, pow-suc}
+use native.Mathlib.Nat.{eq-or-lt_of_le, zero-add, add-suc, pow-suc}
 use native.Mathlib.Numerals.{add-one, one-add}
 use native.Mathlib.Omega.{arith}
 use lib.Dec.{eqb}
@@ -15,11 +15,9 @@ use borrow.Author.Tests.{eq-eqb, ne_eqb}
 use Rattle.lists.specs.Lists.{keep}
 use Rattle.lists.specs.Inside.Stores.{Written}
 use Rattle.lists.proofs.Stores.{Writing, writing_room, writing_part, writing_none}
-use Rattle.literals.specs.Sets.{has, bit, minus, Lowest}
-use Rattle.literals.specs.Inside.Words.{joined}
+use Rattle.literals.specs.Sets.{has, bit, minus, LowestBelow}
 use Rattle.literals.proofs.Bits.{bit_first, bit_below}
 use Rattle.literals.proofs.Members.{has_half, has_empty, has_minus_power}
-use Rattle.literals.proofs.Words.{has_joined_low, has_joined_high}
 use Rattle.argument.specs.List.{picked, list_by}
 use Rattle.listing.specs.Inside.Listing.{members_from}
 
@@ -46,33 +44,11 @@ picked_shift f g base c k (suc n) e =
     ap₂ (λ (t : Bool) (x : ℕ). keep t x (picked f base (suc (c + k)) n)) (e k) place
     ∙ ap (keep (g k) (base + c + k)) (ap (λ (j : ℕ). picked f base j n) (sym (add-suc c k)) ∙ picked_shift f g base c (suc k) n e)
 
-picked_split : (f : ℕ → Bool) (base k a n : ℕ) → picked f base k (a + n) ≡ picked f base k a ++ picked f base (k + a) n
-unfolding picked
-picked_split f base k zero n = ap₂ (λ (x y : ℕ). picked f base x y) (sym (add-zero k)) (zero-add n)
-picked_split f base k (suc a) n =
-    let next : suc k + a ≡ k + suc a = omega arith in
-    ap (picked f base k) (suc-add a n) ∙ ap (keep (f k) (base + k)) (picked_split f base (suc k) a n)
-    ∙ keep_append (f k) (base + k) (picked f base (suc k) a) (picked f base (suc k + a) n)
-    ∙ ap (λ (x : ℕ). keep (f k) (base + k) (picked f base (suc k) a) ++ picked f base x n) next
-  where
-    keep_append : (t : Bool) (x : ℕ) (l r : List ℕ) → keep t x (l ++ r) ≡ keep t x l ++ r
-    keep_append true x l r = refl
-    keep_append false x l r = refl
-
--- the members of two words
-pub members_words : (hi lo base : ℕ) → lo < 2 ^ 64
-    → members_from base 128 (joined hi lo) ≡ members_from base 64 lo ++ members_from (base + 64) 64 hi
-members_words hi lo base l =
-    picked_split (has (joined hi lo)) base 0 64 64
-    ∙ ap₂ (λ (x y : List ℕ). x ++ y)
-    (picked_ext (has (joined hi lo)) (has lo) base 0 64 (λ j a b. has_joined_low hi lo j (omega arith)))
-    (picked_shift (has (joined hi lo)) (has hi) base 64 0 64 (λ j. has_joined_high hi lo j l))
-
 pub members_none : (base n : ℕ) → members_from base n 0 ≡ []
 members_none base n = picked_none (has 0) base 0 n has_empty
 
 -- the lowest member first, and then the others
-module _ (base s b : ℕ) (lowest : Lowest s b) where
+module _ (base n s b : ℕ) (lowest : LowestBelow n s b) where
   less : ℕ → Bool
   less j = has (minus s (2 ^ b)) j
 
@@ -110,9 +86,9 @@ module _ (base s b : ℕ) (lowest : Lowest s b) where
           (ap (λ (t : Bool). keep t (base + k) (picked less base (suc k) n))
           (sym (sym (other k (λ z. omega arith)) ∙ lowest.least k l)))
 
-  pub members_lowest : (n : ℕ) → b < n → members_from base n s ≡ (base + b) ∷ members_from base n (minus s (2 ^ b))
+  pub members_lowest : members_from base n s ≡ (base + b) ∷ members_from base n (minus s (2 ^ b))
   unfolding less
-  members_lowest n l = lowest_from 0 n (omega arith) (omega arith)
+  members_lowest = lowest_from 0 n (omega arith) (omega (arith, lowest.small))
 
 -- as many as the set has members
 pub members_length : (n base s : ℕ) → s < 2 ^ n → length (members_from base n s) ≡ ones s

@@ -4,7 +4,7 @@ ghost use Rattle.lists.specs.Inside.Stores.{Written};
 ghost use Rattle.literals.specs.Inside.Words.{set_of};
 ghost use Rattle.listing.specs.Inside.Listing.{members_from};
 
-use literals::{LiteralSet, masks};
+use literals::LiteralSet;
 
 // Writes base + h for each member h, ascending, and returns the next place.
 pub fn write_set(arguments: &mut [u32], at: usize, base: u64, set: LiteralSet) -> usize
@@ -12,23 +12,10 @@ pub fn write_set(arguments: &mut [u32], at: usize, base: u64, set: LiteralSet) -
     requires base_bound { base + 128 ≤ 2 ^ 32 }
     ensures { Written arguments.old arguments.new at result (members_from base 128 (set_of set)) }
 {
-    let next = write_word(arguments, at, base, set.lo);
-    write_word(arguments, next, base + 64, set.hi)
-}
-
-// The same for one word.
-fn write_word(arguments: &mut [u32], at: usize, base: u64, word: u64) -> usize
-    requires word_in_bounds { at + length (members_from base 64 word) ≤ length arguments.old }
-    requires base_bound { base + 64 ≤ 2 ^ 32 }
-    ensures { Written arguments.old arguments.new at result (members_from base 64 word) }
-{
     let mut next = at;
-    let mut left = word;
-    while left != 0 {
-        let bit = masks::lowest(left);
-        arguments[next] = (base + bit) as u32;
+    for literal in set {
+        arguments[next] = (base + literal) as u32;
         next += 1;
-        left = masks::rest(left);
     }
     next
 }

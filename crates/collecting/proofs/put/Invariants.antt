@@ -6,8 +6,5 @@ use lib.ListN.{length}
 use Rattle.collecting.specs.Inside.Columns.{Put}
 use Rattle.collecting.proofs.put.Given as goal
 
-abbrev pub invariant-loop-left : goal.invariant-loop-left
-invariant-loop-left l = (length l.columns ≡ length l.initial.columns) × ((d : List ℕ) → Put l.l l.left l.columns d → Put l.l l.x l.initial.columns d)
-
-abbrev pub decreases-loop-left : goal.decreases-loop-left
-decreases-loop-left l = l.left
+abbrev pub invariant-loop-k : goal.invariant-loop-k
+invariant-loop-k l = (length l.columns ≡ length l.initial.columns) × ((d : List ℕ) → Put l.l l.k-iterator.left l.columns d → Put l.l l.x l.initial.columns d)

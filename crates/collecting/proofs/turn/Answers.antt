@@ -1,27 +1,20 @@
--- `turn` meets its contract: the low word, then the high one.
-use mathlib.Core.Path.{◌∙◌}
-use Rattle.literals.specs.Inside.Words.{set_of}
-use Rattle.collecting.proofs.Turns.{turned_both}
-use native.Mathlib.Omega.{arith}
-use borrow.Author.Rules.{rules}
+use mathlib.Core.Path.{refl, ◌∙◌}
+use Rattle.collecting.proofs.Turns.{turned_row, turned_literal, turned_end}
 use Rattle.collecting.proofs.turn.Goals as goal
 
-pub turn_literals-low-requires : goal.turn_literals-low-requires
-turn_literals-low-requires c = record {
-  laid = (c.requires.0, c.requires.1, c.requires.2);
-  first_bound = omega arith;
-}
+pub loop-literal-init : goal.loop-literal-init
+loop-literal-init c = rw c.into_iter-literal-iterator.ensures.into_iter_gives (refl, λ d y m. m)
 
-pub turn_literals-requires : goal.turn_literals-requires
-turn_literals-requires c = record {
-  laid = (c.requires.0, c.requires.1, c.turn_literals-low.ensures.sized ∙ c.requires.2);
-  first_bound = omega arith;
-}
-
-pub shape_of-columns : goal.shape_of-columns
-shape_of-columns c = c.turn_literals.ensures.sized ∙ c.turn_literals-low.ensures.sized
+pub loop-literal-preserved : goal.loop-literal-preserved
+loop-literal-preserved c = let a = c.args in (
+  c.turn_row-masks.ensures.1.sized ∙ c.loop-literal.invariant.0,
+  λ d y m.
+      c.loop-literal.invariant.1 d y
+      (turned_literal a.rows.now a.w _ c.in-Some.literal c.in-Some.ensures.steps.0 c.loop-literal.columns _ d c.loop-literal.masks _ y
+      (turned_row a.rows.now a.w c.in-Some.literal c.turn_row-masks.result c.loop-literal.masks c.loop-literal.columns _ c.turn_row-masks.ensures.0 c.turn_row-masks.ensures.1)
+      (rw c.in-Some.ensures.steps.1 at m)),
+)
 
 pub returns : goal.returns
-unfolding set_of
 returns c = let a = c.args in
-    turned_both a.rows.now a.w a.literals.hi a.literals.lo (search rules) (search rules) _ _ _ _ _ _ c.turn_literals-low.ensures c.turn_literals.ensures
+    c.loop-literal.invariant.1 _ _ (turned_end a.rows.now a.w _ c.loop-literal.columns c.loop-literal.masks c.in-None.ensures.steps.0)

@@ -4,8 +4,5 @@ use Rattle.literals.specs.Inside.Words.{set_of}
 use Rattle.collecting.specs.Inside.Columns.{words_list}
 use Rattle.collecting.proofs.write_words.Given as goal
 
-abbrev pub invariant-loop-left : goal.invariant-loop-left
-invariant-loop-left l = Writing l.initial.arguments l.arguments l.at l.next (words_list l.rows (set_of l.literals) l.touched l.i) (words_list l.rows (set_of l.literals) l.left l.i)
-
-abbrev pub decreases-loop-left : goal.decreases-loop-left
-decreases-loop-left l = l.left
+abbrev pub invariant-loop-b : goal.invariant-loop-b
+invariant-loop-b l = Writing l.initial.arguments l.arguments l.at l.next (words_list l.rows (set_of l.literals) l.touched l.i) (words_list l.rows (set_of l.literals) l.b-iterator.left l.i)

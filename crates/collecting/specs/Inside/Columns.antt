@@ -44,9 +44,9 @@ word_count t l w = sum (λ m. one (argues t m l)) (64 * w) 64
 abbrev pub row_count : List ℕ → ℕ → ℕ
 row_count t l = sum (word_count t l) 0 1024
 
--- the arguments for the literals first + b, b a member of word
-abbrev pub literals_count : List ℕ → ℕ → ℕ → ℕ
-literals_count t first word = sum (only ℕ 0 word (λ b. row_count t (first + b))) 0 64
+-- the arguments for the literals of s
+abbrev pub literals_count : List ℕ → ℕ → ℕ
+literals_count t s = sum (only ℕ 0 s (row_count t)) 0 128
 
 -- the word of the masks from 64 w on is marked
 abbrev pub marked : List ℕ → ℕ → Bool
@@ -57,10 +57,6 @@ pub record Marks (t : List ℕ) (Some : ℕ → ℕ → Type 0) (u v : List ℕ)
   pub sized : length v ≡ length u
   pub kept : (w : ℕ) → marked u w ≡ true → marked v w ≡ true
   pub covers : (l m : ℕ) → Some l m → argues t m l ≡ true → marked v (m / 64) ≡ true
-
--- literal l is first + b, b a member of word
-abbrev pub Literals : ℕ → ℕ → ℕ → Type 0
-Literals first word l = (b : ℕ) × (l ≡ first + b) × (has word b ≡ true)
 
 -- literal l is one of s
 abbrev pub Members : ℕ → ℕ → Type 0

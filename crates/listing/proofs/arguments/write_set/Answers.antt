@@ -1,46 +1,42 @@
--- `arguments::write_set` meets its contract: the members of the low word, and after them those of the high word.
 use mathlib.Core.Path.{◌≡◌, ap, ◌∙◌}
-use mathlib.Core.List.{List, ◌++◌}
-use Prim.Native.Nat.{ℕ, ◌+◌}
-use lib.ListN.{length, length-append}
+use mathlib.Core.List.{◌∷◌}
+use Prim.Native.Nat.{◌+◌, ◌^◌, ◌<◌}
+use lib.ListN.{length}
+use Rattle.literals.specs.Sets.{minus}
 use Rattle.literals.specs.Inside.Words.{set_of}
 use Rattle.listing.specs.Inside.Listing.{members_from}
-use Rattle.listing.proofs.Picks.{members_words}
-use Rattle.lists.proofs.Stores.{written_append}
+use Rattle.listing.proofs.Picks.{members_none, members_lowest}
+use Rattle.lists.proofs.Stores.{writing_all, writing_one, writing_none}
 use native.Mathlib.Omega.{arith}
-use borrow.Author.Rules.{rules}
 use Rattle.listing.proofs.arguments.write_set.Goals as goal
-use Rattle.listing.proofs.arguments.write_set.Goals.{Start}
+use Rattle.listing.proofs.arguments.write_set.Goals.{In-Some}
 
-module _ (c : Start) where
-  abbrev low : List ℕ
-  low = members_from c.args.base 64 c.args.set.lo
+-- the lowest member is the next to be written, and there is a place for it
+module _ (c : In-Some) where
+  first : members_from c.args.base 128 (set_of c.loop-literal.literal-iterator.left)
+      ≡ (c.args.base + c.in-Some.literal) ∷ members_from c.args.base 128 (minus (set_of c.loop-literal.literal-iterator.left) (2 ^ c.in-Some.literal))
+  first = members_lowest _ _ _ _ c.in-Some.ensures.steps.0
 
-  abbrev high : List ℕ
-  high = members_from (c.args.base + 64) 64 c.args.set.hi
+  place : c.loop-literal.next < length c.loop-literal.arguments
+  place =
+      let inv = c.loop-literal.invariant in
+      omega (arith, ap length first, inv.places, inv.kept, c.requires.set_in_bounds)
 
-  words : members_from c.args.base 128 (set_of c.args.set) ≡ low ++ high
-  unfolding set_of
-  words = members_words c.args.set.hi c.args.set.lo c.args.base (search rules)
+pub loop-literal-init : goal.loop-literal-init
+loop-literal-init c = writing_all _ _ _ _ (ap (λ s. members_from c.args.base 128 (set_of s)) c.into_iter-literal-iterator.ensures.into_iter_gives)
 
-  lengths : length (members_from c.args.base 128 (set_of c.args.set)) ≡ length low + length high
-  lengths = ap length words ∙ simp length-append
+pub offset_bounds-arguments-next : goal.offset_bounds-arguments-next
+offset_bounds-arguments-next c = omega (arith, place (goal.at.offset_bounds-arguments-next c).In-Some, c.well_formed)
 
-pub write_word-next-requires : goal.write_word-next-requires
-write_word-next-requires c = record {
-  word_in_bounds = omega (arith, lengths (goal.at.write_word-next-requires c).Start, c.requires.set_in_bounds);
-  base_bound = omega (arith, c.requires.base_bound);
-}
+pub bounds-arguments-next : goal.bounds-arguments-next
+bounds-arguments-next c = place (goal.at.bounds-arguments-next c).In-Some
 
-pub overflow_add-base : goal.overflow_add-base
-overflow_add-base c = omega (arith, c.requires.base_bound)
+pub overflow_add-next : goal.overflow_add-next
+overflow_add-next c = omega (arith, place (goal.at.overflow_add-next c).In-Some, c.well_formed)
 
-pub write_word-requires : goal.write_word-requires
-write_word-requires c = record {
-  word_in_bounds = omega (arith, lengths (goal.at.write_word-requires c).Start, c.requires.set_in_bounds, c.write_word-next.ensures.next_is, c.write_word-next.auto.arguments);
-  base_bound = omega (arith, c.requires.base_bound);
-}
+pub loop-literal-preserved : goal.loop-literal-preserved
+loop-literal-preserved c = rw (c.in-Some.ensures.steps.1)
+    (writing_one _ _ _ c.loop-literal.next _ _ c.loop-literal.invariant _ _ (first (goal.at.loop-literal-preserved c).In-Some))
 
 pub returns : goal.returns
-returns c = written_append _ _ _ _ _ _ _ _ _ (words (goal.at.returns c).Start)
-    c.write_word-next.ensures c.write_word.ensures
+returns c = writing_none _ _ _ _ _ _ c.loop-literal.invariant (ap (members_from _ 128) c.in-None.ensures.steps.0 ∙ members_none _ 128)

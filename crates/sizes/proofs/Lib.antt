@@ -1,2 +1,0 @@
--- What the sizes share.
-mod Twice
