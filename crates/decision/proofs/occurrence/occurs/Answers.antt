@@ -1,3 +1,4 @@
+-- The rules from one on, and what one more says.
 use mathlib.Core.Path.{sym, ◌∙◌}
 use Prim.Native.Nat.{◌<◌}
 use lib.ListN.{length}
@@ -6,31 +7,15 @@ use Rattle.decision.proofs.Occurrences.{occurs_start, occurs_here, occurs_later,
 use Rattle.decision.proofs.occurrence.occurs.Goals as goal
 
 pub loop-i-init : goal.loop-i-init
-loop-i-init c = (omega arith, λ p h. occurs_start p _)
-
-pub stands-requires : goal.stands-requires
-stands-requires c = record {
-  i_bound = omega (arith, c.requires.shaped.few);
-  literal_bound = c.requires.literal_bound;
-}
+loop-i-init c p h = occurs_start p _
 
 pub returns-then-stands : goal.returns-then-stands
-returns-then-stands c p h = let l : c.loop-i.i < length p.rules = omega (arith, c.loop-i-test, c.rule_count-rules.ensures, h.rules_are) in
-    occurs_here p _ c.loop-i.i l (sym (c.stands.ensures _ _ (h.row c.loop-i.i l)) ∙ c.if-stands.true) (c.loop-i.invariant.1 p h)
-
-pub overflow_add-i : goal.overflow_add-i
-overflow_add-i c = omega (arith, c.requires.shaped.few)
-
-pub loop-i-smaller : goal.loop-i-smaller
-loop-i-smaller c = omega arith
+returns-then-stands c p h = let l : c.loop-i.i < length p.rules = omega (arith, h.rules_are) in
+    occurs_here p _ c.loop-i.i l (sym (c.stands.ensures _ _ (h.row c.loop-i.i l)) ∙ c.if-stands.true) (c.loop-i.invariant p h)
 
 pub loop-i-preserved : goal.loop-i-preserved
-loop-i-preserved c = (
-  omega arith,
-  λ p h.
-      let l : c.loop-i.i < length p.rules = omega (arith, c.loop-i-test, c.rule_count-rules.ensures, h.rules_are) in
-      occurs_later p _ c.loop-i.i l (sym (c.stands.ensures _ _ (h.row c.loop-i.i l)) ∙ c.if-stands.false) (c.loop-i.invariant.1 p h),
-)
+loop-i-preserved c p h = let l : c.loop-i.i < length p.rules = omega (arith, h.rules_are) in
+    occurs_later p _ c.loop-i.i l (sym (c.stands.ensures _ _ (h.row c.loop-i.i l)) ∙ c.if-stands.false) (c.loop-i.invariant p h)
 
 pub returns : goal.returns
-returns c p h = occurs_nowhere p _ c.loop-i.i (omega (arith, c.rule_count-rules.ensures, h.rules_are)) (c.loop-i.invariant.1 p h)
+returns c p h = occurs_nowhere p _ c.loop-i.i (omega (arith, h.rules_are)) (c.loop-i.invariant p h)

@@ -1,6 +1,5 @@
 -- `occurs` meets its contract. The invariant: the atom stands in some rule exactly if it stands in one of those from here on.
 use mathlib.Core.Path.{◌≡◌}
-use Prim.Native.Nat.{◌-◌, ◌≤◌}
 use Rattle.program.specs.Program.{Program}
 use Rattle.program.specs.Inside.Table.{Holds}
 use Rattle.answer.specs.Answer.{occurs}
@@ -8,7 +7,4 @@ use Rattle.decision.proofs.Occurrences.{occurs_from}
 use Rattle.decision.proofs.occurrence.occurs.Given as goal
 
 abbrev pub invariant-loop-i : goal.invariant-loop-i
-invariant-loop-i l = (l.i ≤ l.rules) × ((p : Program) → Holds p l.table → occurs_from p l.literal l.i ≡ occurs p l.literal)
-
-abbrev pub decreases-loop-i : goal.decreases-loop-i
-decreases-loop-i l = l.rules - l.i
+invariant-loop-i l = (p : Program) → Holds p l.table → occurs_from p l.literal l.i ≡ occurs p l.literal
