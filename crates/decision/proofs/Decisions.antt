@@ -1,37 +1,47 @@
--- From the forest to the answer and what it leaves in the four tables.
-use mathlib.Core.Path.{◌≡◌, refl, sym, ap, ap₂, ◌∙◌, subst}
+-- From the forest to the answer and what it leaves in the tables.
+use mathlib.Core.Path.{◌≡◌, refl, sym, ap, ◌∙◌, subst}
 use mathlib.Core.Bool.{Bool, true, false}
 use mathlib.Core.List.{List, ◌++◌}
-use Prim.Native.Nat.{ℕ, ◌+◌, ◌≤◌, ◌<◌}
+use Prim.Native.Nat.{ℕ, ◌≤◌}
 use native.Mathlib.Nat.{le_trans}
 use native.Mathlib.Omega.{arith}
 use lib.Dec.{ltb}
-use borrow.Author.Tests.{lt-ltb, le-ltb, ltb-true, ltb-false}
+use borrow.Author.Tests.{lt-ltb, le-ltb}
 use lib.ListN.{length, take, drop, replicate, length-replicate}
+use lib.Seq.{take-length}
+use Rattle.std.specs.Prelude.{Option, Some, None, MatchOption}
+use Rattle.std.specs.Option.{ForSome}
 use Rattle.program.specs.Program.{Program}
 use Rattle.program.specs.Inside.Table.{Holds}
 use Rattle.derivation.specs.Derivation.{complement}
+use Rattle.argument.specs.List.{argument_list}
 use Rattle.excluded.specs.Inside.Exclusions.{Excluded, Conclusions}
+use Rattle.tree.specs.declared.candidates.Framework.{Framework}
+use Rattle.tree.specs.declared.nodes.Columns.{Columns}
 use Rattle.tree.specs.Entries.{Entry}
-use Rattle.tree.specs.Inside.Tables.{Columns, written, past, Hold, Built}
+use Rattle.tree.specs.Inside.Tables.{Hold}
 use Rattle.tree.specs.Inside.Steps.{Prepared}
-use Rattle.tree.specs.Inside.Roots.{RootsReady, ForestBuilt}
+use Rattle.tree.specs.Inside.Roots.{RootsReady, ForestBuilt, ForestOver}
 use Rattle.tree.proofs.Tables.{column_front, columns_same}
+use Rattle.forest.specs.declared.roots.Grown.{Grown}
 use Rattle.answer.specs.declared.Answer.{Answer}
 use Rattle.answer.specs.declared.Answer.TheVariants.{Yes, Unknown, Unfinished}
 use Rattle.answer.specs.Answer.{occurs, node_count, forest_entries, warranted, answer_of, answer_by, tests, answer}
 use Rattle.answer.specs.Tables.{front}
-use Rattle.answer.specs.Inside.Columns.{columns_after, cleared, cleared_if}
+use Rattle.answer.specs.Inside.Columns.{columns_after, cleared}
+use Rattle.outcome.specs.Outcome.{concluded, cleared_unless}
 use Rattle.decision.specs.Inside.Steps.{Held, Asked, Listing, Decided}
 use Rattle.answer.proofs.Answers.{entries_count}
-use Rattle.outcome.proofs.Concluded.{Concluded}
 
 -- ---- the tables that the forest is built from
 
-module _ {table : List ℕ} (w : Held table) {rows arguments : List ℕ} {count : ℕ} (l : Listing w rows arguments count)
-    (exclusions : List ℕ) (u : ℕ) (c : Conclusions u (take count arguments))
-    (e : (p : Program) → Holds p table → Excluded p.rules u exclusions) where
-  abbrev pub prepared : Prepared table rows exclusions arguments count
+module _ (f : Framework) (w : Held f.table.now) (l : Listing w f.rows.now f.arguments.now) (u : ℕ)
+    (c : Conclusions u (take (length f.arguments.now) f.arguments.now))
+    (e : (p : Program) → Holds p f.table.now → Excluded p.rules u f.exclusions.now) where
+  pub listed : take (length f.arguments.now) f.arguments.now ≡ argument_list w.program.rules
+  listed = take-length f.arguments.now ∙ l.listed
+
+  abbrev pub prepared : Prepared f
   prepared = record {
     program = w.program;
     conclusions = u;
@@ -40,27 +50,31 @@ module _ {table : List ℕ} (w : Held table) {rows arguments : List ℕ} {count 
       holds = w.holds;
       told = l.told;
       excluded = e w.program w.holds;
-      conclusions = subst (Conclusions u) l.listed c;
-      listed = l.listed;
+      conclusions = subst (Conclusions u) listed c;
+      listed = listed;
     };
     laid = l.laid;
-    counted = l.counted;
   }
 
-  pub roots_ready : (h budget : ℕ) (t : Columns) (line : List ℕ) → Asked table h budget t → 4096 ≤ length line
-      → RootsReady table rows exclusions arguments count line 0 budget t
+  pub roots_ready : (h budget : ℕ) (t : Columns) (line : List ℕ) → Asked f.table.now h budget t → 4096 ≤ length line
+      → RootsReady f line 0 budget
   roots_ready h budget t line a k = record {
     prepared = prepared;
     below = omega arith;
     budget = a.budget_below;
     line_holds = le_trans a.budget_below k;
-    tables_hold = a.tables_hold;
   }
 
--- the number of nodes is one past the limit at most
-pub built_small : {es : List Entry} {at limit r : ℕ} {before after : Columns} → Built es at limit r before after → r ≤ limit + 1
-built_small (Built.fits e h k) = omega arith
-built_small (Built.over e h k) = omega arith
+-- what a forest within the budget or past it says
+abbrev pub GrownOf : (p : Program) (h b : ℕ) (before after : Columns) → Option Grown → Type 0
+GrownOf p h b before after r = MatchOption r
+    (ForestOver (tests p) h b before after)
+    (λ g. ForestBuilt (tests p) h b g.nodes g.won g.lost before after)
+
+-- the number of nodes is the budget at most
+pub grown_small : (p : Program) (h b : ℕ) (before after : Columns) (r : Option Grown) → GrownOf p h b before after r
+    → ForSome r (λ g. g.nodes ≤ b)
+grown_small p h b before after r k g e = (rw e at k).built.within
 
 -- ---- the answer
 
@@ -80,82 +94,57 @@ module _ (p : Program) (h b : ℕ) where
     nodes_are = refl;
   }
 
-  module _ (o : Bool) (occurs_is : o ≡ occurs p h) (there : o ≡ true) {nodes : ℕ} {won lost : Bool} {before after : Columns}
-      (grown : ForestBuilt (tests p) h b nodes won lost before after) where
+  module _ (o : Bool) (occurs_is : o ≡ occurs p h) (there : o ≡ true) {before : Columns} where
     -- more nodes than the budget
-    module _ (more : b < nodes) where
-      over : {r : ℕ} → Built es 0 b r before after → b < r → (b < length es) × (past b after ≡ past b before)
-      over (Built.fits e k q) l = absurd (omega arith)
-      over (Built.over e k q) l = (omega arith, q)
-
+    module _ {after : Columns} (over : ForestOver (tests p) h b before after) where
       zeroed : (s u : List ℕ) → drop b u ≡ drop b s → front (replicate b 0) u ≡ front (replicate b 0) s
       zeroed s u e = ap (λ (d : List ℕ). replicate b 0 ++ d) (at u ∙ e ∙ sym (at s))
         where
           at : (x : List ℕ) → drop (length {A = ℕ} (replicate b 0)) x ≡ drop b x
           at x = ap (λ (n : ℕ). drop n x) (length-replicate b 0)
 
-      pub decided_over : (zeros : Columns) → zeros ≡ cleared b after → Decided p h b (Unfinished b) before zeros
-      decided_over zeros z =
-          let k = over grown.built more in
-          record {
-            result_is = answered true true (sym occurs_is ∙ there)
-                (lt-ltb b (node_count (tests p) h) (subst (λ (n : ℕ). b < n) (entries_count (tests p) h) k.0))
-                (warranted (tests p) h) (warranted (tests p) (complement h)) refl refl;
-            nodes_are = z ∙ columns_same
-                (zeroed before.arguments after.arguments (ap (λ (t : Columns). t.arguments) k.1))
-                (zeroed before.parents after.parents (ap (λ (t : Columns). t.parents) k.1))
-                (zeroed before.kinds after.kinds (ap (λ (t : Columns). t.kinds) k.1))
-                (zeroed before.marks after.marks (ap (λ (t : Columns). t.marks) k.1));
-          }
+      decided_over : Decided p h b (Unfinished b) before (cleared b after)
+      decided_over = record {
+        result_is = answered true true (sym occurs_is ∙ there)
+            (lt-ltb b (node_count (tests p) h) (omega (arith, over.more, entries_count (tests p) h)))
+            (warranted (tests p) h) (warranted (tests p) (complement h)) refl refl;
+        nodes_are = columns_same
+            (zeroed before.indexes after.indexes (ap (λ (t : Columns). t.indexes) over.kept))
+            (zeroed before.parents after.parents (ap (λ (t : Columns). t.parents) over.kept))
+            (zeroed before.kinds after.kinds (ap (λ (t : Columns). t.kinds) over.kept))
+            (zeroed before.marks after.marks (ap (λ (t : Columns). t.marks) over.kept));
+      }
 
     -- no more nodes than the budget
-    module _ (within : nodes ≤ b) (hold : Hold b before) where
-      fits : {r : ℕ} → Built es 0 b r before after → r ≤ b → (r ≡ length es) × (after ≡ written 0 es before)
-      fits (Built.fits e k q) l = (omega arith, q)
-      fits (Built.over e k q) l = absurd (omega arith)
-
+    module _ {after : Columns} {nodes : ℕ} {won lost : Bool} (grown : ForestBuilt (tests p) h b nodes won lost before after) (hold : Hold b before) where
       count : nodes ≡ node_count (tests p) h
-      count = (fits grown.built within).0 ∙ entries_count (tests p) h
+      count = omega (arith, grown.built.next_is, entries_count (tests p) h)
 
       finished : answer_of true false won lost b nodes ≡ answer p h b
       finished =
           ap (answer_of true false won lost b) count
-          ∙ answered true false (sym occurs_is ∙ there) (le-ltb b (node_count (tests p) h) (subst (λ (n : ℕ). n ≤ b) count within))
-          won lost (grown.won_is within) (grown.lost_is within)
+          ∙ answered true false (sym occurs_is ∙ there)
+          (le-ltb b (node_count (tests p) h) (subst (λ (n : ℕ). n ≤ b) count grown.built.within)) won lost grown.won_is grown.lost_is
 
       fronts : after ≡ columns_after (Yes nodes) es before
       fronts =
-          let f = fits grown.built within in
-          let n = f.0 in
-          f.1 ∙ columns_same
-          (column_front (λ e. e.argument) before.arguments es (omega (arith, hold.arguments_hold)))
+          let n = grown.built.next_is in
+          let m = grown.built.within in
+          grown.built.tables_are ∙ columns_same
+          (column_front (λ e. e.argument) before.indexes es (omega (arith, hold.indexes_hold)))
           (column_front (λ e. e.parent) before.parents es (omega (arith, hold.parents_hold)))
           (column_front (λ e. e.kind) before.kinds es (omega (arith, hold.kinds_hold)))
           (column_front (λ e. e.mark) before.marks es (omega (arith, hold.marks_hold)))
 
-      pub decided_within : (w m : Bool) → won ≡ w → lost ≡ m → Decided p h b (answer_of true false w m b nodes) before after
-      decided_within w m e f = record {
-        result_is = ap₂ (λ (x y : Bool). answer_of true false x y b nodes) (sym e) (sym f) ∙ finished;
-        nodes_are = go w m;
-      }
+      decided_within : Decided p h b (answer_of true false won lost b nodes) before after
+      decided_within = record { result_is = finished; nodes_are = go won lost }
         where
           go : (w m : Bool) → after ≡ columns_after (answer_of true false w m b nodes) es before
           go true m = fronts
           go false true = fronts
           go false false = fronts
 
-    pub decided : Hold b before → (r : Answer) (last : Columns) → Concluded b nodes won lost r after last
-        → Decided p h b r before last
-    decided hold r last k = go (ltb b nodes) refl
-      where
-        go : (v : Bool) → ltb b nodes ≡ v → Decided p h b r before last
-        go true e =
-            let q : r ≡ Unfinished b = k.0 ∙ ap (λ (v : Bool). answer_of true v won lost b nodes) e in
-            let z : last ≡ cleared b after = k.1 ∙ ap (λ (v : Bool). cleared_if v b after) e in
-            subst (λ (a : Answer). Decided p h b a before last) (sym q) (decided_over (ltb-true b nodes e) last z)
-        go false e =
-            let q : r ≡ answer_of true false won lost b nodes = k.0 ∙ ap (λ (v : Bool). answer_of true v won lost b nodes) e in
-            let z : last ≡ after = k.1 ∙ ap (λ (v : Bool). cleared_if v b after) e in
-            let d = decided_within (ltb-false b nodes e) hold won lost refl refl in
-            subst (λ (a : Answer). Decided p h b a before last) (sym q)
-            (subst (λ (t : Columns). Decided p h b (answer_of true false won lost b nodes) before t) (sym z) d)
+    pub decided : (after : Columns) → Hold b before → (g : Option Grown) → GrownOf p h b before after g → {r : Answer} {last : Columns}
+        → r ≡ concluded g b → last ≡ cleared_unless g b after → Decided p h b r before last
+    decided after hold None over e z = rw (e, z) (decided_over over)
+    decided after hold (Some g) built e z = rw (e, z) (decided_within built hold)

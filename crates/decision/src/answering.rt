@@ -1,8 +1,6 @@
-// From the argument list to the answer: the forest in the four tables, then its outcome.
-ghost use Rattle.std.specs.Prelude.{◌+◌, ◌^◌, ◌<◌, length};
-ghost use Rattle.literals.specs.Inside.Words.{set_of};
-ghost use Rattle.tree.specs.Inside.Tables.{columns};
-ghost use Rattle.tree.specs.Inside.Roots.{ForestBuilt};
+// From the argument list to the answer: the forest in its tables, then its outcome.
+ghost use Rattle.std.specs.Prelude.{◌+◌, ◌^◌, ◌<◌, length, MatchOption};
+ghost use Rattle.tree.specs.Inside.Roots.{ForestBuilt, ForestOver};
 ghost use Rattle.answer.specs.Answer.{tests};
 ghost use Rattle.decision.specs.Inside.Steps.{Held, Asked, Plans, Listing, Decidable, Decided, Settles};
 
@@ -10,52 +8,47 @@ use crate::occurrence::occurs;
 use answer::Answer;
 use closing::Ground;
 use forest::roots::Grown;
-use listing::Listed;
 use literals::LiteralSet;
 use program::RuleTable;
+use tree::candidates::Framework;
+use tree::nodes::Columns;
 
-// Fills the lent table of rows as it was planned, writes the argument list and answers the literal.
+// The rows as planned: where they stand, and the live rules that they are filled from.
+#[derive(Clone, Copy)]
+pub struct Plan<'t> {
+    pub ground: Ground,
+    pub live: &'t RuleTable,
+    pub keep: &'t [u64],
+    pub base: &'t [u64],
+}
+
+// Fills the lent table of rows as it was planned, writes the argument list and answers the literal. There is no answer where
+// the argument table is too short.
 pub fn settle(
     table: &RuleTable,
-    live: &RuleTable,
-    plan: Ground,
-    keep: &[u64],
-    base: &[u64],
+    plan: Plan<'_>,
     rows: &mut [u64],
     arguments: &mut [u32],
     literal: u64,
     budget: u32,
-    indexes: &mut [u32],
-    parents: &mut [u32],
-    kinds: &mut [u8],
-    marks: &mut [u8],
-) -> Answer
-    requires asked { Asked table.now literal budget (columns indexes.old parents.old kinds.old marks.old) }
-    requires plans { Plans table.now live.now keep.now base.now (set_of plan.derived) (set_of plan.literals) (set_of plan.pairs) plan.end plan.span }
-    requires span_in_bounds { (plan.end + plan.span < length rows.old) × (length rows.old < 2 ^ 32) }
-    ensures { Settles table.now literal budget result arguments.old arguments.new
-        (columns indexes.old parents.old kinds.old marks.old)
-        (columns indexes.new parents.new kinds.new marks.new) }
+    columns: &mut Columns,
+) -> Option<Answer>
+    requires asked { Asked table.now literal budget columns.old }
+    requires plans { Plans table.now plan }
+    requires span_in_bounds { (plan.ground.end + plan.ground.span < length rows.old) × (length rows.old < 2 ^ 32) }
+    ensures { Settles table.now literal budget result arguments.old arguments.new columns.old columns.new }
 {
-    closing::fill(live, plan, keep, base, rows);
-    match collecting::list(rows, plan.derived.union(plan.literals), arguments) {
-        Listed::Count(count) => decide(
-            table,
-            rows,
-            arguments,
-            count as usize,
-            literal,
-            budget,
-            indexes,
-            parents,
-            kinds,
-            marks,
-        ),
-        Listed::Over => Answer::Refused {
-            number: Answer::ARGUMENT_TABLE,
-            place: 0,
-        },
-    }
+    closing::fill(plan.live, plan.ground, plan.keep, plan.base, rows);
+    let reached = plan.ground.derived.union(plan.ground.literals);
+    let count = collecting::list(rows, reached, arguments)?;
+    Some(decide(
+        table,
+        rows,
+        &arguments[..count as usize],
+        literal,
+        budget,
+        columns,
+    ))
 }
 
 // Answers the literal.
@@ -63,28 +56,19 @@ fn decide(
     table: &RuleTable,
     rows: &[u64],
     arguments: &[u32],
-    count: usize,
     literal: u64,
     budget: u32,
-    indexes: &mut [u32],
-    parents: &mut [u32],
-    kinds: &mut [u8],
-    marks: &mut [u8],
+    columns: &mut Columns,
 ) -> Answer
-    requires { Decidable table.now rows.now arguments.now count literal budget
-        (columns indexes.old parents.old kinds.old marks.old) }
-    ensures { (w : Held table.now) → Listing w rows.now arguments.now count
-        → Decided w.program literal budget result
-        (columns indexes.old parents.old kinds.old marks.old)
-        (columns indexes.new parents.new kinds.new marks.new) }
+    requires { Decidable table.now rows.now arguments.now literal budget columns.old }
+    ensures { (w : Held table.now) → Listing w rows.now arguments.now
+        → Decided w.program literal budget result columns.old columns.new }
 {
     if !occurs(table, literal) {
         return Answer::Unknown;
     }
-    let grown = grow(
-        table, rows, arguments, count, literal, budget, indexes, parents, kinds, marks,
-    );
-    outcome::conclude(grown, budget, indexes, parents, kinds, marks)
+    let grown = grow(table, rows, arguments, literal, budget, columns);
+    outcome::conclude(grown, budget, columns)
 }
 
 // Writes the forest, with tables of its own for the exclusion sets and the line.
@@ -92,38 +76,25 @@ fn grow(
     table: &RuleTable,
     rows: &[u64],
     arguments: &[u32],
-    count: usize,
     literal: u64,
     budget: u32,
-    indexes: &mut [u32],
-    parents: &mut [u32],
-    kinds: &mut [u8],
-    marks: &mut [u8],
-) -> Grown
-    requires { Decidable table.now rows.now arguments.now count literal budget
-        (columns indexes.old parents.old kinds.old marks.old) }
-    ensures { (w : Held table.now) → Listing w rows.now arguments.now count
-        → ForestBuilt (tests w.program) literal budget result.nodes result.won result.lost
-        (columns indexes.old parents.old kinds.old marks.old)
-        (columns indexes.new parents.new kinds.new marks.new) }
+    columns: &mut Columns,
+) -> Option<Grown>
+    requires { Decidable table.now rows.now arguments.now literal budget columns.old }
+    ensures { (w : Held table.now) → Listing w rows.now arguments.now → MatchOption result
+        (ForestOver (tests w.program) literal budget columns.old columns.new)
+        (λ g. ForestBuilt (tests w.program) literal budget g.nodes g.won g.lost columns.old columns.new) }
 {
     let mut exclusions = [0u64; 256];
-    let conclusions = excluded::conclusions(arguments, count);
+    let conclusions = excluded::conclusions(arguments, arguments.len());
     let derived = derivation::close(table, 0, LiteralSet::empty());
     excluded::fill(table, derived, conclusions, &mut exclusions);
     let mut line = [0u32; 4096];
-    forest::roots::forest(
+    let framework = Framework {
         table,
         rows,
-        &exclusions,
+        exclusions: &exclusions,
         arguments,
-        count,
-        literal,
-        &mut line,
-        budget as usize,
-        indexes,
-        parents,
-        kinds,
-        marks,
-    )
+    };
+    forest::roots::forest(&framework, literal, &mut line, budget as usize, columns)
 }

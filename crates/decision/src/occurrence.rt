@@ -13,8 +13,7 @@ pub fn occurs(table: &RuleTable, literal: u64) -> bool
     requires literal_bound { literal < 128 }
     ensures { (p : Program) → Holds p table.now → result ≡ occurs_in p literal }
 {
-    let rules = program::rule_count(table);
-    for i in 0..rules {
+    for i in 0..program::rule_count(table) {
         if stands(table, i, literal) {
             return true;
         }

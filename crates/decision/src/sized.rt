@@ -1,238 +1,63 @@
 // The answer with a table of rows of its own, in one of four sizes: a program whose rows are short neither clears nor reserves a
 // megabyte.
-ghost use Rattle.std.specs.Prelude.{◌+◌, ◌<◌, ◌≤◌};
-ghost use Rattle.literals.specs.Inside.Words.{set_of};
-ghost use Rattle.tree.specs.Inside.Tables.{columns};
+ghost use Rattle.std.specs.Prelude.{◌+◌, ◌^◌, ◌<◌};
 ghost use Rattle.decision.specs.Inside.Steps.{Asked, Plans, Settles};
 
-use crate::answering::settle;
+use crate::answering::{Plan, settle};
 use answer::Answer;
-use closing::Ground;
 use program::RuleTable;
+use tree::nodes::Columns;
 
-// Writes the argument list of the program that the table holds, and answers the literal.
+// Writes the argument list of the program that the table holds, and answers the literal. There is no answer where the argument
+// table is too short.
 pub fn query(
     table: &RuleTable,
     arguments: &mut [u32],
     literal: u64,
     budget: u32,
-    indexes: &mut [u32],
-    parents: &mut [u32],
-    kinds: &mut [u8],
-    marks: &mut [u8],
-) -> Answer
-    requires { Asked table.now literal budget (columns indexes.old parents.old kinds.old marks.old) }
-    ensures { Settles table.now literal budget result arguments.old arguments.new
-        (columns indexes.old parents.old kinds.old marks.old)
-        (columns indexes.new parents.new kinds.new marks.new) }
+    columns: &mut Columns,
+) -> Option<Answer>
+    requires { Asked table.now literal budget columns.old }
+    ensures { Settles table.now literal budget result arguments.old arguments.new columns.old columns.new }
 {
     let mut live = [0u64; 419];
     let mut keep = [0u64; 128];
     let mut base = [0u64; 128];
-    let plan = closing::plan(table, &mut live, &mut keep, &mut base);
-    let last = plan.end + plan.span;
+    let ground = closing::plan(table, &mut live, &mut keep, &mut base);
+    let plan = Plan {
+        ground,
+        live: &live,
+        keep: &keep,
+        base: &base,
+    };
+    let last = ground.end + ground.span;
     if last < 512 {
-        return small(
-            table, &live, plan, &keep, &base, arguments, literal, budget, indexes, parents, kinds,
-            marks,
-        );
+        return with_rows::<512>(table, plan, arguments, literal, budget, columns);
     }
     if last < 2304 {
-        return middle(
-            table, &live, plan, &keep, &base, arguments, literal, budget, indexes, parents, kinds,
-            marks,
-        );
+        return with_rows::<2304>(table, plan, arguments, literal, budget, columns);
     }
     if last < 8464 {
-        return large(
-            table, &live, plan, &keep, &base, arguments, literal, budget, indexes, parents, kinds,
-            marks, last,
-        );
+        return with_rows::<8464>(table, plan, arguments, literal, budget, columns);
     }
-    huge(
-        table, &live, plan, &keep, &base, arguments, literal, budget, indexes, parents, kinds,
-        marks, last,
-    )
+    with_rows::<133120>(table, plan, arguments, literal, budget, columns)
 }
 
-fn small(
+// With a table of N words. Each size has a frame of its own, which `query` does not take.
+#[inline(never)]
+fn with_rows<const N: usize>(
     table: &RuleTable,
-    live: &RuleTable,
-    plan: Ground,
-    keep: &[u64],
-    base: &[u64],
+    plan: Plan<'_>,
     arguments: &mut [u32],
     literal: u64,
     budget: u32,
-    indexes: &mut [u32],
-    parents: &mut [u32],
-    kinds: &mut [u8],
-    marks: &mut [u8],
-) -> Answer
-    requires asked { Asked table.now literal budget (columns indexes.old parents.old kinds.old marks.old) }
-    requires plans { Plans table.now live.now keep.now base.now (set_of plan.derived) (set_of plan.literals) (set_of plan.pairs) plan.end plan.span }
-    requires span_bound { plan.end + plan.span < 512 }
-    ensures { Settles table.now literal budget result arguments.old arguments.new
-        (columns indexes.old parents.old kinds.old marks.old)
-        (columns indexes.new parents.new kinds.new marks.new) }
+    columns: &mut Columns,
+) -> Option<Answer>
+    requires asked { Asked table.now literal budget columns.old }
+    requires plans { Plans table.now plan }
+    requires room { (plan.ground.end + plan.ground.span < N) × (N < 2 ^ 32) }
+    ensures { Settles table.now literal budget result arguments.old arguments.new columns.old columns.new }
 {
-    let mut rows = [0u64; 512];
-    settle(
-        table, live, plan, keep, base, &mut rows, arguments, literal, budget, indexes, parents,
-        kinds, marks,
-    )
-}
-
-fn middle(
-    table: &RuleTable,
-    live: &RuleTable,
-    plan: Ground,
-    keep: &[u64],
-    base: &[u64],
-    arguments: &mut [u32],
-    literal: u64,
-    budget: u32,
-    indexes: &mut [u32],
-    parents: &mut [u32],
-    kinds: &mut [u8],
-    marks: &mut [u8],
-) -> Answer
-    requires asked { Asked table.now literal budget (columns indexes.old parents.old kinds.old marks.old) }
-    requires plans { Plans table.now live.now keep.now base.now (set_of plan.derived) (set_of plan.literals) (set_of plan.pairs) plan.end plan.span }
-    requires span_bound { plan.end + plan.span < 2304 }
-    ensures { Settles table.now literal budget result arguments.old arguments.new
-        (columns indexes.old parents.old kinds.old marks.old)
-        (columns indexes.new parents.new kinds.new marks.new) }
-{
-    let mut rows = [0u64; 2304];
-    settle(
-        table, live, plan, keep, base, &mut rows, arguments, literal, budget, indexes, parents,
-        kinds, marks,
-    )
-}
-
-// It calls itself as `huge` does. Here the compiler sees that no call takes the branch, and merges it into its caller all the
-// same: a caller's frame has this table too.
-fn large(
-    table: &RuleTable,
-    live: &RuleTable,
-    plan: Ground,
-    keep: &[u64],
-    base: &[u64],
-    arguments: &mut [u32],
-    literal: u64,
-    budget: u32,
-    indexes: &mut [u32],
-    parents: &mut [u32],
-    kinds: &mut [u8],
-    marks: &mut [u8],
-    last: u64,
-) -> Answer
-    requires asked { Asked table.now literal budget (columns indexes.old parents.old kinds.old marks.old) }
-    requires plans { Plans table.now live.now keep.now base.now (set_of plan.derived) (set_of plan.literals) (set_of plan.pairs) plan.end plan.span }
-    requires span_bound { (plan.end + plan.span < 8464) × (last ≤ 8464) }
-    ensures { Settles table.now literal budget result arguments.old arguments.new
-        (columns indexes.old parents.old kinds.old marks.old)
-        (columns indexes.new parents.new kinds.new marks.new) }
-{
-    if 8464 < last {
-        large(
-            table,
-            live,
-            plan,
-            keep,
-            base,
-            arguments,
-            literal,
-            budget,
-            indexes,
-            parents,
-            kinds,
-            marks,
-            last - 1,
-        );
-        return large(
-            table,
-            live,
-            plan,
-            keep,
-            base,
-            arguments,
-            literal,
-            budget,
-            indexes,
-            parents,
-            kinds,
-            marks,
-            last - 2,
-        );
-    }
-    let mut rows = [0u64; 8464];
-    settle(
-        table, live, plan, keep, base, &mut rows, arguments, literal, budget, indexes, parents,
-        kinds, marks,
-    )
-}
-
-// The greatest size, which no table goes past. The branch is for the compiler, and no call takes it: a function that calls
-// itself is not merged into its caller, whose frame would otherwise have this megabyte too.
-fn huge(
-    table: &RuleTable,
-    live: &RuleTable,
-    plan: Ground,
-    keep: &[u64],
-    base: &[u64],
-    arguments: &mut [u32],
-    literal: u64,
-    budget: u32,
-    indexes: &mut [u32],
-    parents: &mut [u32],
-    kinds: &mut [u8],
-    marks: &mut [u8],
-    last: u64,
-) -> Answer
-    requires asked { Asked table.now literal budget (columns indexes.old parents.old kinds.old marks.old) }
-    requires plans { Plans table.now live.now keep.now base.now (set_of plan.derived) (set_of plan.literals) (set_of plan.pairs) plan.end plan.span }
-    requires span_bound { (plan.end + plan.span < 133120) × (last ≤ 133120) }
-    ensures { Settles table.now literal budget result arguments.old arguments.new
-        (columns indexes.old parents.old kinds.old marks.old)
-        (columns indexes.new parents.new kinds.new marks.new) }
-{
-    if 133120 < last {
-        huge(
-            table,
-            live,
-            plan,
-            keep,
-            base,
-            arguments,
-            literal,
-            budget,
-            indexes,
-            parents,
-            kinds,
-            marks,
-            last - 1,
-        );
-        return huge(
-            table,
-            live,
-            plan,
-            keep,
-            base,
-            arguments,
-            literal,
-            budget,
-            indexes,
-            parents,
-            kinds,
-            marks,
-            last - 2,
-        );
-    }
-    let mut rows = [0u64; 133120];
-    settle(
-        table, live, plan, keep, base, &mut rows, arguments, literal, budget, indexes, parents,
-        kinds, marks,
-    )
+    let mut rows = [0u64; N];
+    settle(table, plan, &mut rows, arguments, literal, budget, columns)
 }

@@ -1,6 +1,7 @@
 -- What the steps from a program to an answer are asked, and what they leave.
-use Rattle.std.specs.Prelude.{◌≡◌, Bool, List, ◌∷◌, ℕ, ◌/◌, ◌≤◌, ◌<◌, eqb, leb, length, take}
+use Rattle.std.specs.Prelude.{◌≡◌, Bool, List, ◌∷◌, Option, Some, None, ℕ, ◌/◌, ◌≤◌, ◌<◌, eqb, leb, length}
 use Rattle.lists.specs.Lists.{any, choose}
+use Rattle.literals.specs.Inside.Words.{set_of}
 use Rattle.program.specs.Program.{Rule, Program}
 use Rattle.program.specs.Limits.{Limits}
 use Rattle.program.specs.Inside.Table.{Holds}
@@ -8,11 +9,13 @@ use Rattle.argument.specs.List.{argument_list}
 use Rattle.listing.specs.Inside.Listing.{with_list}
 use Rattle.closures.specs.Inside.Table.{Laid, Tells}
 use Rattle.closing.specs.Inside.Plan.{Planned, PlanOf}
-use Rattle.tree.specs.Inside.Tables.{Columns, Hold}
+use Rattle.tree.specs.declared.nodes.Columns.{Columns}
+use Rattle.tree.specs.Entries.{Entry}
+use Rattle.tree.specs.Inside.Tables.{Hold}
 use Rattle.answer.specs.declared.Answer.{Answer}
-use Rattle.answer.specs.declared.Answer.TheVariants.{Refused}
 use Rattle.answer.specs.Answer.{tests, forest_entries, answer}
 use Rattle.answer.specs.Inside.Columns.{columns_after}
+use Rattle.decision.specs.declared.answering.Plan.{Plan}
 
 -- the atom of h stands in a rule
 abbrev pub stands_in : ℕ → Rule → Bool
@@ -24,7 +27,7 @@ pub record Held (table : List ℕ) : Type 0 where
   pub limits : Limits program
   pub holds : Holds program table
 
--- a literal, a budget and four tables with room for it
+-- a literal, a budget, and the tables of a forest with room for it
 pub record Asked (table : List ℕ) (h budget : ℕ) (t : Columns) : Type 0 where
   pub held : Held table
   pub literal_below : h < 128
@@ -32,39 +35,44 @@ pub record Asked (table : List ℕ) (h budget : ℕ) (t : Columns) : Type 0 wher
   pub tables_hold : Hold budget t
 
 -- the rows of the program that the table holds are planned
-pub record Plans (table live keep base : List ℕ) (d s q n v : ℕ) : Type 0 where
-  pub planned : Planned live keep base d s q n v
-  pub plan_of : (p : Program) → Holds p table → PlanOf p live d s
+pub record Plans (table : List ℕ) (p : Plan) : Type 0 where
+  pub planned : Planned p.live.now p.keep.now p.base.now (set_of p.ground.derived) (set_of p.ground.literals)
+      (set_of p.ground.pairs) p.ground.end p.ground.span
+  pub plan_of : (q : Program) → Holds q table → PlanOf q p.live.now (set_of p.ground.derived) (set_of p.ground.literals)
 
 -- the rows and the argument list of the program are there
-pub record Listing {table : List ℕ} (w : Held table) (rows arguments : List ℕ) (count : ℕ) : Type 0 where
+pub record Listing {table : List ℕ} (w : Held table) (rows arguments : List ℕ) : Type 0 where
   pub told : Tells w.program.rules rows
   pub laid : Laid rows
-  pub listed : take count arguments ≡ argument_list w.program.rules
-  pub counted : count ≤ length arguments
+  pub listed : arguments ≡ argument_list w.program.rules
 
-pub record Decidable (table rows arguments : List ℕ) (count h budget : ℕ) (t : Columns) : Type 0 where
+pub record Decidable (table rows arguments : List ℕ) (h budget : ℕ) (t : Columns) : Type 0 where
   pub asked : Asked table h budget t
-  pub listing : Listing asked.held rows arguments count
+  pub listing : Listing asked.held rows arguments
 
--- the answer, and what it leaves in the four tables
+-- the answer, and what it leaves in the tables of the forest
 pub record Decided (p : Program) (h budget : ℕ) (r : Answer) (before after : Columns) : Type 0 where
   pub result_is : r ≡ answer p h budget
   pub nodes_are : after ≡ columns_after r (forest_entries (tests p) h) before
 
--- the answer, or 23: "More arguments than the argument table holds"
-abbrev pub settled : Program → (h budget room : ℕ) → Answer
-settled p h budget room = choose (leb (length (argument_list p.rules)) room) (answer p h budget) (Refused 23 0)
+-- the answer, or none: "More arguments than the argument table holds"
+abbrev pub settled : Program → (h budget room : ℕ) → Option Answer
+settled p h budget room = choose (leb (length (argument_list p.rules)) room) (Some (answer p h budget)) None
 
--- that, and what it leaves in all lent tables
-pub record Settled (p : Program) (h budget : ℕ) (r : Answer) (arguments arguments' : List ℕ) (before after : Columns)
+-- with no answer the tables are as they were
+abbrev pub columns_settled : Option Answer → List Entry → Columns → Columns
+columns_settled (Some r) forest t = columns_after r forest t
+columns_settled None forest t = t
+
+-- that, and what it leaves in all tables
+pub record Settled (p : Program) (h budget : ℕ) (r : Option Answer) (arguments arguments' : List ℕ) (before after : Columns)
     : Type 0 where
   pub result_is : r ≡ settled p h budget (length arguments)
   pub arguments_are : arguments' ≡ with_list (argument_list p.rules) arguments
-  pub nodes_are : after ≡ columns_after r (forest_entries (tests p) h) before
+  pub nodes_are : after ≡ columns_settled r (forest_entries (tests p) h) before
 
 -- the same of each program within the limits that the table holds
-abbrev pub Settles : (table : List ℕ) (h budget : ℕ) (r : Answer) (arguments arguments' : List ℕ) (before after : Columns)
-    → Type 0
+abbrev pub Settles : (table : List ℕ) (h budget : ℕ) (r : Option Answer) (arguments arguments' : List ℕ)
+    (before after : Columns) → Type 0
 Settles table h budget r arguments arguments' before after =
     (w : Held table) → Settled w.program h budget r arguments arguments' before after

@@ -1,3 +1,4 @@
+-- The rules from one on, and what one more says.
 use mathlib.Core.Path.{sym, ◌∙◌}
 use Prim.Native.Nat.{◌<◌}
 use lib.ListN.{length}
@@ -9,12 +10,12 @@ pub loop-i-init : goal.loop-i-init
 loop-i-init c p h = occurs_start p _
 
 pub returns-then-stands : goal.returns-then-stands
-returns-then-stands c p h = let l : c.loop-i.i < length p.rules = omega (arith, c.loop-i-test, c.rule_count-rules.ensures, h.rules_are) in
+returns-then-stands c p h = let l : c.loop-i.i < length p.rules = omega (arith, h.rules_are) in
     occurs_here p _ c.loop-i.i l (sym (c.stands.ensures _ _ (h.row c.loop-i.i l)) ∙ c.if-stands.true) (c.loop-i.invariant p h)
 
 pub loop-i-preserved : goal.loop-i-preserved
-loop-i-preserved c p h = let l : c.loop-i.i < length p.rules = omega (arith, c.loop-i-test, c.rule_count-rules.ensures, h.rules_are) in
+loop-i-preserved c p h = let l : c.loop-i.i < length p.rules = omega (arith, h.rules_are) in
     occurs_later p _ c.loop-i.i l (sym (c.stands.ensures _ _ (h.row c.loop-i.i l)) ∙ c.if-stands.false) (c.loop-i.invariant p h)
 
 pub returns : goal.returns
-returns c p h = occurs_nowhere p _ c.loop-i.i (omega (arith, c.rule_count-rules.ensures, h.rules_are)) (c.loop-i.invariant p h)
+returns c p h = occurs_nowhere p _ c.loop-i.i (omega (arith, h.rules_are)) (c.loop-i.invariant p h)

@@ -1,5 +1,0 @@
-use Rattle.decision.proofs.sized.+huge.Given as goal
-
--- proposed from what the function passes where it calls itself
-abbrev pub decreases-huge : goal.decreases-huge
-decreases-huge l = l.last

@@ -1,5 +1,0 @@
-use Rattle.decision.proofs.sized.+large.Given as goal
-
--- proposed from what the function passes where it calls itself
-abbrev pub decreases-large : goal.decreases-large
-decreases-large l = l.last
