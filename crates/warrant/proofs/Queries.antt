@@ -13,13 +13,16 @@ use Rattle.calls.specs.Verdicts.{refuse, and_then}
 use Rattle.layout.specs.Reading.{program_in}
 use Rattle.image.proofs.Accepted.{accepted_limits}
 use Rattle.program.specs.Inside.Table.{Holds}
-use Rattle.tree.specs.Inside.Tables.{Columns}
+use Rattle.tree.specs.declared.nodes.Columns.{Columns}
 use Rattle.answer.specs.declared.Answer.{Answer}
-use Rattle.calls.specs.Outcomes.{Outcome, Given, Refused, by_verdict}
+use Rattle.std.specs.Prelude.{Option, Some, None}
+use Rattle.std.specs.Option.{ok_or}
+use Rattle.layout.specs.declared.Cause.TheVariants.{ArgumentTable}
+use Rattle.calls.specs.Outcomes.{Outcome, Given, Refused, by_verdict, outcome_of}
 use Rattle.answer.specs.Answer.{tests, forest_entries, answer}
 use Rattle.answer.specs.Tables.{front}
 use Rattle.answer.specs.Inside.Columns.{columns_after}
-use Rattle.decision.specs.Inside.Steps.{Held, settled, Settled}
+use Rattle.decision.specs.Inside.Steps.{Held, settled, Settled, columns_settled}
 use Rattle.listing.specs.Inside.Listing.{with_list}
 use Rattle.calls.specs.Calls.{check_image, list_in, query_verdict, queried, unless_refused, query_arguments}
 use Rattle.calls.specs.Calls.{query_column}
@@ -94,26 +97,35 @@ module _ (s : List ℕ) (h b : ℕ) (arguments : List ℕ) (room : ℕ) where
               verdict_by verdicts.Accepted false false false w accepted (lt-leb 128 h below) (le-ltb 4096 b limit)
               (le-ltb room b held) e
 
-          pub query_settled : (r : Answer) (arguments' : List ℕ) (before after : Columns)
-              → Settled (program_in s) h b r arguments arguments' before after → Queried r arguments' before after
+          pub query_settled : (r : Option Answer) (arguments' : List ℕ) (before after : Columns)
+              → Settled (program_in s) h b r arguments arguments' before after
+              → Queried (outcome_of (ok_or r (record { cause = ArgumentTable; place = 0 }))) arguments' before after
           query_settled r arguments' before after d = go (ltb (length arguments) (length (list_in s))) refl
             where
               fits : (w : Bool) → leb (length (list_in s)) (length arguments) ≡ w
-                  → (settled (program_in s) h b (length arguments) ≡ choose w (answer (program_in s) h b) (Refused 23 0))
+                  → (settled (program_in s) h b (length arguments) ≡ choose w (Some (answer (program_in s) h b)) None)
                   × (with_list (list_in s) arguments ≡ choose w (front (list_in s) arguments) arguments)
               fits w e = (
-                ap (λ (x : Bool). choose x (answer (program_in s) h b) (Refused 23 0)) e,
+                ap (λ (x : Bool). choose x (Some (answer (program_in s) h b)) None) e,
                 ap (λ (x : Bool). choose x (front (list_in s) arguments) arguments) e,
               )
 
-              go : (w : Bool) → ltb (length arguments) (length (list_in s)) ≡ w → Queried r arguments' before after
+              left_by : (o : Option Answer) → columns_settled o (forest_entries (tests (program_in s)) h) before
+                  ≡ columns_left (outcome_of (ok_or o (record { cause = ArgumentTable; place = 0 }))) (forest_entries (tests (program_in s)) h) before
+              left_by (Some a) = refl
+              left_by None = refl
+
+              go : (w : Bool) → ltb (length arguments) (length (list_in s)) ≡ w
+                  → Queried (outcome_of (ok_or r (record { cause = ArgumentTable; place = 0 }))) arguments' before after
               go true e =
                   let f = fits false (lt-leb (length (list_in s)) (length arguments) (ltb-true _ _ e)) in
                   let v = last_by true e in
-                  let q = d.result_is ∙ f.0 ∙ result_by (verdicts.Refused 23 0) v in
-                  (q, d.arguments_are ∙ f.1 ∙ table_by (verdicts.Refused 23 0) v, d.nodes_are ∙ columns_by r before q)
+                  let q = ap (λ (o : Option Answer). outcome_of (ok_or o (record { cause = ArgumentTable; place = 0 }))) (d.result_is ∙ f.0)
+                      ∙ result_by (verdicts.Refused 23 0) v in
+                  (q, d.arguments_are ∙ f.1 ∙ table_by (verdicts.Refused 23 0) v, d.nodes_are ∙ left_by r ∙ columns_by _ before q)
               go false e =
                   let f = fits true (le-leb (length (list_in s)) (length arguments) (ltb-false _ _ e)) in
                   let v = last_by false e in
-                  let q = d.result_is ∙ f.0 ∙ result_by verdicts.Accepted v in
-                  (q, d.arguments_are ∙ f.1 ∙ table_by verdicts.Accepted v, d.nodes_are ∙ columns_by r before q)
+                  let q = ap (λ (o : Option Answer). outcome_of (ok_or o (record { cause = ArgumentTable; place = 0 }))) (d.result_is ∙ f.0)
+                      ∙ result_by verdicts.Accepted v in
+                  (q, d.arguments_are ∙ f.1 ∙ table_by verdicts.Accepted v, d.nodes_are ∙ left_by r ∙ columns_by _ before q)

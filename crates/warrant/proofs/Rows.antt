@@ -13,7 +13,7 @@ use Rattle.layout.specs.Reading.{program_in}
 use Rattle.derivation.specs.Derivation.{complement}
 use Rattle.preference.specs.Preference.{preferred_test}
 use Rattle.tree.specs.Entries.{Entry}
-use Rattle.tree.specs.Inside.Tables.{Columns, columns}
+use Rattle.tree.specs.declared.nodes.Columns.{Columns}
 use Rattle.answer.specs.declared.Answer.{Answer}
 use Rattle.answer.specs.declared.Answer.TheVariants.{Yes, No, Undecided, Unknown, Unfinished}
 use Rattle.answer.specs.Answer.{occurs, forest_entries, node_count, warranted, answer_of, answer_by, tests, answer, nodes_of}
@@ -130,15 +130,19 @@ module _ (s : List ℕ) (h b al : ℕ) where
     abbrev column : {A : Type 0} → (Entry → A) → List A → List A
     column field l = front (map field es) l
 
-    columns_are : query_columns s h b al (length table) t
-        ≡ columns (column (λ e. e.argument) t.arguments) (column (λ e. e.parent) t.parents)
-        (column (λ e. e.kind) t.kinds) (column (λ e. e.mark) t.marks)
+    columns_are : query_columns s h b al (length table) t ≡ record {
+      indexes = column (λ e. e.argument) t.indexes;
+      parents = column (λ e. e.parent) t.parents;
+      kinds = column (λ e. e.kind) t.kinds;
+      marks = column (λ e. e.mark) t.marks;
+    }
     unfolding query_column
-    columns_are = λ i. columns
-        (left_front (λ e. e.argument) a entries t.arguments i)
-        (left_front (λ e. e.parent) a entries t.parents i)
-        (left_front (λ e. e.kind) a entries t.kinds i)
-        (left_front (λ e. e.mark) a entries t.marks i)
+    columns_are = λ i. record {
+      indexes = left_front (λ e. e.argument) a entries t.indexes i;
+      parents = left_front (λ e. e.parent) a entries t.parents i;
+      kinds = left_front (λ e. e.kind) a entries t.kinds i;
+      marks = left_front (λ e. e.mark) a entries t.marks i;
+    }
 
     pub query_rows : front (rows (nodes_in a) (query_columns s h b al (length table) t)) table ≡ query_nodes s h b al table
     unfolding query_column

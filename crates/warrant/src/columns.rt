@@ -1,31 +1,25 @@
 // The query over four tables of numbers, one for each field of the node entries.
 ghost use Rattle.std.specs.Prelude.{◌≡◌, length};
-ghost use Rattle.tree.specs.Inside.Tables.{columns, Hold};
 ghost use Rattle.calls.specs.Outcomes.{outcome_of};
 ghost use Rattle.calls.specs.Calls.{queried, query_arguments};
 ghost use Rattle.warrant.specs.Inside.Columns.{query_columns};
 
 use answer::Answer;
 use layout::{Cause, Refusal};
+use tree::nodes::Columns;
 
 // Answers a literal beside a node table of `room` entries. What the four tables held before plays no part in the answer.
-pub fn query<'i, 'a, 't>(
-    image: &'i [u8],
+pub fn query(
+    image: &[u8],
     literal: u32,
     budget: u32,
     room: usize,
-    arguments: &'a mut [u32],
-    indexes: &'t mut [u32],
-    parents: &'t mut [u32],
-    kinds: &'t mut [u8],
-    marks: &'t mut [u8],
+    arguments: &mut [u32],
+    columns: &mut Columns,
 ) -> Result<Answer, Refusal>
-    requires { Hold 4096 (columns indexes.old parents.old kinds.old marks.old) }
     ensures { (outcome_of result ≡ queried image.now literal budget (length arguments.old) room)
         × (arguments.new ≡ query_arguments image.now literal budget arguments.old room)
-        × (columns indexes.new parents.new kinds.new marks.new
-        ≡ query_columns image.now literal budget (length arguments.old) room
-        (columns indexes.old parents.old kinds.old marks.old)) }
+        × (columns.new ≡ query_columns image.now literal budget (length arguments.old) room columns.old) }
 {
     let mut table = [0u64; 419];
     calls::load(image, &mut table)?;
@@ -38,15 +32,6 @@ pub fn query<'i, 'a, 't>(
     if room < budget as usize {
         return Err(Cause::NodeTable.at(0));
     }
-    decision::sized::query(
-        &table,
-        arguments,
-        literal as u64,
-        budget,
-        indexes,
-        parents,
-        kinds,
-        marks,
-    )
-    .ok_or(Cause::ArgumentTable.at(0))
+    decision::sized::query(&table, arguments, literal as u64, budget, columns)
+        .ok_or(Cause::ArgumentTable.at(0))
 }

@@ -10,6 +10,7 @@ use answer::Answer;
 pub use calls::{check, list};
 use layout::Refusal;
 use nodes::Node;
+use tree::nodes::Columns;
 
 mod columns;
 
@@ -23,28 +24,14 @@ pub fn query(
 ) -> Result<Answer, Refusal>
     ensures { (outcome_of result ≡ queried image.now literal budget (length arguments.old) (length nodes.old)) × (arguments.new ≡ query_arguments image.now literal budget arguments.old (length nodes.old)) × (nodes.new ≡ query_nodes image.now literal budget (length arguments.old) nodes.old) }
 {
-    let mut indexes = [0u32; 4096];
-    let mut parents = [0u32; 4096];
-    let mut kinds = [0u8; 4096];
-    let mut marks = [0u8; 4096];
-    let answer = columns::query(
-        image,
-        literal,
-        budget,
-        nodes.len(),
-        arguments,
-        &mut indexes,
-        &mut parents,
-        &mut kinds,
-        &mut marks,
-    )?;
-    nodes::write(
-        nodes,
-        &indexes,
-        &parents,
-        &kinds,
-        &marks,
-        answer.nodes() as usize,
-    );
+    let mut columns = Columns {
+        indexes: [0; 4096],
+        parents: [0; 4096],
+        kinds: [0; 4096],
+        marks: [0; 4096],
+    };
+    let room = nodes.len();
+    let answer = columns::query(image, literal, budget, room, arguments, &mut columns)?;
+    nodes::write(nodes, &columns, answer.nodes() as usize);
     Ok(answer)
 }
