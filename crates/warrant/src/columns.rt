@@ -1,5 +1,6 @@
 // The query over four tables of numbers, one for each field of the node entries.
 ghost use Rattle.std.specs.Prelude.{◌≡◌, length};
+ghost use Rattle.tree.specs.Inside.Tables.{Hold};
 ghost use Rattle.calls.specs.Outcomes.{outcome_of};
 ghost use Rattle.calls.specs.Calls.{queried, query_arguments};
 ghost use Rattle.warrant.specs.Inside.Columns.{query_columns};
@@ -17,6 +18,7 @@ pub fn query(
     arguments: &mut [u32],
     columns: &mut Columns,
 ) -> Result<Answer, Refusal>
+    requires { Hold 4096 columns.old }
     ensures { (outcome_of result ≡ queried image.now literal budget (length arguments.old) room)
         × (arguments.new ≡ query_arguments image.now literal budget arguments.old room)
         × (columns.new ≡ query_columns image.now literal budget (length arguments.old) room columns.old) }

@@ -1,5 +1,6 @@
 -- `columns::query` meets its contract: cause by cause, then the answer in the program.
 use mathlib.Core.Path.{sym, ap, ◌∙◌}
+use native.Mathlib.Nat.{le_trans}
 use Rattle.std.proofs.lemmas.Result.{err_from_is_err_and}
 use Rattle.calls.specs.Verdicts.{told}
 use Rattle.warrant.proofs.Queries.{held_in, query_image, query_20, query_21, query_22, query_settled}
@@ -27,7 +28,12 @@ query-requires c = let e = sym c.load.ensures.0 ∙ ap told c.in_ok-load.was in
       held = held_in c.args.image.now _ e (c.load.ensures.1 e);
       literal_below = c.if-literal-ge128.false;
       budget_below = c.if-budget-gt4096.false;
-      tables_hold = ?;
+      tables_hold = record {
+        indexes_hold = le_trans c.if-budget-gt4096.false c.requires.indexes_hold;
+        parents_hold = le_trans c.if-budget-gt4096.false c.requires.parents_hold;
+        kinds_hold = le_trans c.if-budget-gt4096.false c.requires.kinds_hold;
+        marks_hold = le_trans c.if-budget-gt4096.false c.requires.marks_hold;
+      };
     }
 
 pub returns : goal.returns
