@@ -41,7 +41,7 @@ pub loop-bit-init : goal.loop-bit-init
 loop-bit-init c = rw (c.into_iter-bit-iterator.ensures.into_iter_gives, c.bits-bit-items.ensures) (record { fewer = omega arith; same = λ p limits holds below. refl })
 
 pub beaten-requires : goal.beaten-requires
-beaten-requires c = has_bound c.loop-bit.bit-iterator.left 16 c.in-Some.bit (omega (arith, c.loop-bit.invariant.fewer)) c.in-Some.ensures.steps.0.member
+beaten-requires c = omega (arith, has_bound c.loop-bit.bit-iterator.left 16 c.in-Some.bit (omega (arith, c.loop-bit.invariant.fewer)) c.in-Some.ensures.steps.0.member)
 
 pub returns-then-beaten-z-ne0 : goal.returns-then-beaten-z-ne0
 returns-then-beaten-z-ne0 c = met c.loop-bit.invariant c.in-Some.bit c.beaten.result c.in-Some.ensures.steps.0.member c.beaten.ensures c.if-beaten-z-ne0.true
