@@ -10,18 +10,18 @@ ghost use Rattle.excluded.specs.Inside.Strict.{Reduced};
 ghost use Rattle.excluded.specs.Inside.Rows.{Each, Reached, RowOf, Gained, Joined, Added};
 ghost use Rattle.excluded.specs.Inside.Joint.{Crossed, Coherent, Unspread, Spread, Touches, Pairs};
 
-use crate::{Leaf, entry, store};
+use crate::{LaidRules, entry, store};
 use literals::LiteralSet;
 use program::RuleTable;
 
 // The exclusion table, by what each literal derives.
-pub fn fill(leaf: &Leaf, u: LiteralSet, reach: &[u64; 256], exclusions: &mut [u64; 256])
-    ensures { (r : List Rule) (d : ℕ) → Reduced r d (set_of u) leaf.now.rules.now
+pub fn fill(laid: &LaidRules, u: LiteralSet, reach: &[u64; 256], exclusions: &mut [u64; 256])
+    ensures { (r : List Rule) (d : ℕ) → Reduced r d (set_of u) laid.now.rules.now
         → Reached r (set_of u) reach.now → Excluded r (set_of u) exclusions.new }
 {
     let clashes = cross(reach, exclusions);
-    let joint = unsettled(leaf.rules, reach, u, clashes);
-    join(leaf, u, reach, joint, exclusions);
+    let joint = unsettled(laid.rules, reach, u, clashes);
+    join(laid, u, reach, joint, exclusions);
 }
 
 // Each literal gets those that derive a complement of what it derives. Some literal derives both of an atom.
@@ -101,28 +101,28 @@ fn touch(reach: &[u64; 256], s: LiteralSet) -> LiteralSet
 
 // The rows of the joint literals, each by what it derives with another.
 fn join(
-    leaf: &Leaf,
+    laid: &LaidRules,
     u: LiteralSet,
     reach: &[u64; 256],
     joint: LiteralSet,
     exclusions: &mut [u64; 256],
 )
-    ensures { Each (Joined (set_of u) leaf.now.rules.now reach.now) (set_of joint) exclusions.old exclusions.new }
+    ensures { Each (Joined (set_of u) laid.now.rules.now reach.now) (set_of joint) exclusions.old exclusions.new }
 {
     for literal in joint {
-        store(exclusions, literal, together(leaf, u, reach, literal));
+        store(exclusions, literal, together(laid, u, reach, literal));
     }
 }
 
 // The literals of u that exclude a: the rows are filled again, with a under each literal.
-fn together(leaf: &Leaf, u: LiteralSet, reach: &[u64; 256], a: u64) -> LiteralSet
+fn together(laid: &LaidRules, u: LiteralSet, reach: &[u64; 256], a: u64) -> LiteralSet
     requires { a < 128 }
-    ensures { (r : List Rule) (d : ℕ) → Reduced r d (set_of u) leaf.now.rules.now → Reached r (set_of u) reach.now
+    ensures { (r : List Rule) (d : ℕ) → Reduced r d (set_of u) laid.now.rules.now → Reached r (set_of u) reach.now
         → has_of (set_of u) a ≡ true → RowOf r (set_of u) a (set_of result) }
 {
     let mut rows = *reach;
     store(&mut rows, a, u);
-    leaf.fill(&mut rows);
+    laid.fill(&mut rows);
     pairs(&rows)
 }
 

@@ -19,16 +19,16 @@ mod joint;
 mod reach;
 mod strict;
 
-// Rules that need no switch, and rows of two words each for them.
+// Strict rules, and where the row of each literal stands for them: two words each.
 #[derive(Clone, Copy)]
-struct Leaf<'a> {
+struct LaidRules<'a> {
     rules: &'a RuleTable,
     keep: &'a [u64],
     base: &'a [u64],
     ghost laid: { Laid rules.now keep.now base.now },
 }
 
-impl Leaf<'_> {
+impl LaidRules<'_> {
     // Fills rows, from what they have.
     fn fill(&self, rows: &mut [u64; 256])
         ensures { Rows self.now.rules.now self.now.keep.now self.now.base.now rows.old rows.new }
@@ -65,13 +65,13 @@ pub fn fill(table: &RuleTable, derived: LiteralSet, u: LiteralSet, exclusions: &
     reach::place(&mut base);
     let mut reach = [0u64; 256];
     reach::start(derived, u, &mut reach);
-    let leaf = Leaf {
+    let laid = LaidRules {
         rules: &rules,
         keep: &keep,
         base: &base,
     };
-    leaf.fill(&mut reach);
-    joint::fill(&leaf, u, &reach, exclusions);
+    laid.fill(&mut reach);
+    joint::fill(&laid, u, &reach, exclusions);
 }
 
 // The row of a literal.

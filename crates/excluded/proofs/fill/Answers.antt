@@ -20,8 +20,8 @@ module _ (c : After-start) where
       c.rules.ensures refl c.place.array_long (λ l h. get_or-replicate 128 l 1 0 h)
       c.place.ensures
 
-pub invariant_of-leaf : goal.invariant_of-leaf
-invariant_of-leaf c = record { laid = lies (goal.at.invariant_of-leaf c).After-start }
+pub invariant_of-laid : goal.invariant_of-laid
+invariant_of-laid c = record { laid = lies (goal.at.invariant_of-laid c).After-start }
 
 pub returns : goal.returns
 unfolding set_of

@@ -8,7 +8,7 @@ use Rattle.excluded.proofs.joint.fill.Goals as goal
 pub returns : goal.returns
 unfolding set_of
 returns c rules d reduced reached =
-    excluded_all c.args.leaf.now.rules.now c.args.leaf.now.keep.now c.args.leaf.now.base.now c.args.leaf.now.laid rules d (set_of c.args.u) (set_of c.unsettled-joint.result) reduced c.args.reach.now _ _
+    excluded_all c.args.laid.now.rules.now c.args.laid.now.keep.now c.args.laid.now.base.now c.args.laid.now.laid rules d (set_of c.args.u) (set_of c.unsettled-joint.result) reduced c.args.reach.now _ _
     (joined_below c.args.u.hi c.args.u.lo (omega arith) (omega arith)) reached c.cross-clashes.ensures.crossed
     (λ a h n. let w = c.unsettled-joint.ensures a h n in (c.cross-clashes.ensures.coherent w.0, w.1))
     c.join.ensures

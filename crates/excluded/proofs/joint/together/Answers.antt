@@ -11,8 +11,8 @@ use Rattle.excluded.proofs.joint.together.Goals as goal
 
 pub returns : goal.returns
 unfolding set_of
-returns c rules d reduced reached mine = row_together c.args.leaf.now.rules.now c.args.leaf.now.keep.now c.args.leaf.now.base.now c.args.leaf.now.laid rules d _ reduced c.args.reach.now
+returns c rules d reduced reached mine = row_together c.args.laid.now.rules.now c.args.laid.now.keep.now c.args.laid.now.base.now c.args.laid.now.laid rules d _ reduced c.args.reach.now
     c.fill.new.rows c.args.a c.args.u.lo c.args.u.hi _ reached mine c.told-reach c.requires (omega arith) refl
     (joined_below c.args.u.hi c.args.u.lo (omega arith) (omega arith))
-    (subst (λ (z : List ℕ). Rows c.args.leaf.now.rules.now c.args.leaf.now.keep.now c.args.leaf.now.base.now z c.fill.new.rows) c.store.ensures c.fill.ensures)
+    (subst (λ (z : List ℕ). Rows c.args.laid.now.rules.now c.args.laid.now.keep.now c.args.laid.now.base.now z c.fill.new.rows) c.store.ensures c.fill.ensures)
     c.pairs.ensures

@@ -1,6 +1,6 @@
 -- What the leaf asks is what rules that are laid have.
 use Rattle.excluded.proofs.Fillings.{laid_needs, laid_bearing, laid_placed}
-use Rattle.excluded.proofs.Leaf.fill.Goals as goal
+use Rattle.excluded.proofs.LaidRules.fill.Goals as goal
 
 pub fill-requires : goal.fill-requires
 fill-requires c = let laid = c.args.self.now.laid in record {
