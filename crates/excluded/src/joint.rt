@@ -6,30 +6,22 @@ ghost use Rattle.literals.specs.Inside.Words.{set_of};
 ghost use Rattle.program.specs.Program.{Rule};
 ghost use Rattle.program.specs.Inside.Table.{Shaped, rule_count};
 ghost use Rattle.excluded.specs.Inside.Exclusions.{Excluded};
-ghost use Rattle.excluded.specs.Inside.Strict.{Reduced, Laid};
+ghost use Rattle.excluded.specs.Inside.Strict.{Reduced};
 ghost use Rattle.excluded.specs.Inside.Rows.{Each, Reached, RowOf, Gained, Joined, Added};
 ghost use Rattle.excluded.specs.Inside.Joint.{Crossed, Coherent, Unspread, Spread, Touches, Pairs};
 
-use crate::{entry, store};
+use crate::{LaidRules, entry, store};
 use literals::LiteralSet;
 use program::RuleTable;
 
 // The exclusion table, by what each literal derives.
-pub fn fill(
-    rules: &RuleTable,
-    keep: &[u64],
-    base: &[u64],
-    u: LiteralSet,
-    reach: &[u64; 256],
-    exclusions: &mut [u64; 256],
-)
-    requires laid { Laid rules.now keep.now base.now }
-    ensures { (r : List Rule) (d : ℕ) → Reduced r d (set_of u) rules.now
+pub fn fill(laid: &LaidRules, u: LiteralSet, reach: &[u64; 256], exclusions: &mut [u64; 256])
+    ensures { (r : List Rule) (d : ℕ) → Reduced r d (set_of u) laid.now.rules.now
         → Reached r (set_of u) reach.now → Excluded r (set_of u) exclusions.new }
 {
     let clashes = cross(reach, exclusions);
-    let joint = unsettled(rules, reach, u, clashes);
-    join(rules, keep, base, u, reach, joint, exclusions);
+    let joint = unsettled(laid.rules, reach, u, clashes);
+    join(laid, u, reach, joint, exclusions);
 }
 
 // Each literal gets those that derive a complement of what it derives. Some literal derives both of an atom.
@@ -109,43 +101,28 @@ fn touch(reach: &[u64; 256], s: LiteralSet) -> LiteralSet
 
 // The rows of the joint literals, each by what it derives with another.
 fn join(
-    rules: &RuleTable,
-    keep: &[u64],
-    base: &[u64],
+    laid: &LaidRules,
     u: LiteralSet,
     reach: &[u64; 256],
     joint: LiteralSet,
     exclusions: &mut [u64; 256],
 )
-    requires laid { Laid rules.now keep.now base.now }
-    ensures { Each (Joined (set_of u) rules.now reach.now) (set_of joint) exclusions.old exclusions.new }
+    ensures { Each (Joined (set_of u) laid.now.rules.now reach.now) (set_of joint) exclusions.old exclusions.new }
 {
     for literal in joint {
-        store(
-            exclusions,
-            literal,
-            together(rules, keep, base, u, reach, literal),
-        );
+        store(exclusions, literal, together(laid, u, reach, literal));
     }
 }
 
 // The literals of u that exclude a: the rows are filled again, with a under each literal.
-fn together(
-    rules: &RuleTable,
-    keep: &[u64],
-    base: &[u64],
-    u: LiteralSet,
-    reach: &[u64; 256],
-    a: u64,
-) -> LiteralSet
-    requires laid { Laid rules.now keep.now base.now }
-    requires a_bound { a < 128 }
-    ensures { (r : List Rule) (d : ℕ) → Reduced r d (set_of u) rules.now → Reached r (set_of u) reach.now
+fn together(laid: &LaidRules, u: LiteralSet, reach: &[u64; 256], a: u64) -> LiteralSet
+    requires { a < 128 }
+    ensures { (r : List Rule) (d : ℕ) → Reduced r d (set_of u) laid.now.rules.now → Reached r (set_of u) reach.now
         → has_of (set_of u) a ≡ true → RowOf r (set_of u) a (set_of result) }
 {
     let mut rows = *reach;
     store(&mut rows, a, u);
-    rows::fill(rules, keep, base, &mut rows);
+    laid.fill(&mut rows);
     pairs(&rows)
 }
 

@@ -6,7 +6,9 @@ ghost use Rattle.literals.specs.Inside.Words.{set_of};
 ghost use Rattle.program.specs.Program.{Program, Π};
 ghost use Rattle.program.specs.Inside.Table.{Holds, Shaped};
 ghost use Rattle.derivation.specs.Closure.{closure};
+ghost use Rattle.rows.specs.Layout.{Rows};
 ghost use Rattle.excluded.specs.Inside.Exclusions.{excluded_by, Excluded, Conclusions};
+ghost use Rattle.excluded.specs.Inside.Strict.{Laid};
 ghost use Rattle.excluded.specs.Inside.Rows.{Read};
 
 use argument::numbers;
@@ -16,6 +18,24 @@ use program::RuleTable;
 mod joint;
 mod reach;
 mod strict;
+
+// Strict rules, and where the row of each literal stands for them: two words each.
+#[derive(Clone, Copy)]
+struct LaidRules<'a> {
+    rules: &'a RuleTable,
+    keep: &'a [u64],
+    base: &'a [u64],
+    ghost laid: { Laid rules.now keep.now base.now },
+}
+
+impl LaidRules<'_> {
+    // Fills rows, from what they have.
+    fn fill(&self, rows: &mut [u64; 256])
+        ensures { Rows self.now.rules.now self.now.keep.now self.now.base.now rows.old rows.new }
+    {
+        rows::fill(self.rules, self.keep, self.base, rows);
+    }
+}
 
 // The literals of the listed arguments whose mask is not empty.
 pub fn conclusions(arguments: &[u32], count: usize) -> LiteralSet
@@ -45,8 +65,13 @@ pub fn fill(table: &RuleTable, derived: LiteralSet, u: LiteralSet, exclusions: &
     reach::place(&mut base);
     let mut reach = [0u64; 256];
     reach::start(derived, u, &mut reach);
-    rows::fill(&rules, &keep, &base, &mut reach);
-    joint::fill(&rules, &keep, &base, u, &reach, exclusions);
+    let laid = LaidRules {
+        rules: &rules,
+        keep: &keep,
+        base: &base,
+    };
+    laid.fill(&mut reach);
+    joint::fill(&laid, u, &reach, exclusions);
 }
 
 // The row of a literal.

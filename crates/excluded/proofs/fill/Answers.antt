@@ -7,7 +7,7 @@ use Rattle.literals.proofs.Words.{joined_below}
 use Rattle.excluded.specs.Inside.Strict.{Laid}
 use Rattle.excluded.proofs.RowWords.{replicate_zero}
 use Rattle.excluded.proofs.Takings.{reduced}
-use Rattle.excluded.proofs.Fillings.{laid, laid_needs, laid_bearing, laid_placed, reached}
+use Rattle.excluded.proofs.Fillings.{laid, reached}
 use borrow.Author.Rules.{rules}
 use Rattle.excluded.proofs.fill.Goals as goal
 use Rattle.excluded.proofs.fill.Goals.{After-start}
@@ -20,16 +20,8 @@ module _ (c : After-start) where
       c.rules.ensures refl c.place.array_long (λ l h. get_or-replicate 128 l 1 0 h)
       c.place.ensures
 
-pub fill-requires : goal.fill-requires
-fill-requires c = record {
-  shaped = (lies (goal.at.fill-requires c).After-start).shaped;
-  needs_one = laid_needs _ _ _ (lies (goal.at.fill-requires c).After-start);
-  bearing = laid_bearing _ _ _ (lies (goal.at.fill-requires c).After-start);
-  placed = laid_placed _ _ _ (lies (goal.at.fill-requires c).After-start) _ c.start.array_long;
-}
-
-pub fill-requires-2 : goal.fill-requires-2
-fill-requires-2 c = record { laid = lies (goal.at.fill-requires-2 c).After-start }
+pub invariant_of-laid : goal.invariant_of-laid
+invariant_of-laid c = record { laid = lies (goal.at.invariant_of-laid c).After-start }
 
 pub returns : goal.returns
 unfolding set_of
@@ -40,4 +32,4 @@ returns c long p holds derived = let so = lies (goal.at.returns c).After-start i
     (joined_below c.args.derived.hi c.args.derived.lo (search (rules, known)) (search (rules, known))) derived c.rules.ensures in
     c.fill-2.ensures p.rules (set_of c.args.derived) less
     (reached _ _ _ so p.rules (set_of c.args.derived) (set_of c.args.u) less
-    (joined_below c.args.u.hi c.args.u.lo (search (rules, asked)) (search (rules, asked))) _ _ c.fill.ensures.rows (c.start.ensures (replicate_zero 256)))
+    (joined_below c.args.u.hi c.args.u.lo (search (rules, asked)) (search (rules, asked))) _ _ c.fill.ensures (c.start.ensures (replicate_zero 256)))

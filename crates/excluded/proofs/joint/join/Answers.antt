@@ -10,7 +10,7 @@ loop-literal-init c = going_none _ _ _ _ (ap (λ (s : LiteralSet). set_of s) c.i
 
 pub loop-literal-preserved : goal.loop-literal-preserved
 unfolding set_of
-loop-literal-preserved c = going_more (Joined (set_of c.args.u) c.args.rules.now c.args.reach.now) _ _ (set_of c.loop-literal.literal-iterator.left) _ c.in-Some.literal _ c.in-Some.ensures.steps _ _ _ c.store.ensures c.together.ensures c.loop-literal.invariant
+loop-literal-preserved c = going_more (Joined (set_of c.args.u) c.args.laid.now.rules.now c.args.reach.now) _ _ (set_of c.loop-literal.literal-iterator.left) _ c.in-Some.literal _ c.in-Some.ensures.steps _ _ _ c.store.ensures c.together.ensures c.loop-literal.invariant
 
 pub returns : goal.returns
 returns c = going_all _ _ _ _ _ c.in-None.ensures.steps.0 c.loop-literal.invariant

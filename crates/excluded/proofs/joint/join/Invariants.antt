@@ -5,4 +5,4 @@ use Rattle.excluded.proofs.Eaches.{Going}
 use Rattle.excluded.proofs.joint.join.Given as goal
 
 abbrev pub invariant-loop-literal : goal.invariant-loop-literal
-invariant-loop-literal l = Going (Joined (set_of l.u) l.rules l.reach) (set_of l.fn.joint) l.initial.exclusions (set_of l.literal-iterator.left) l.exclusions
+invariant-loop-literal l = Going (Joined (set_of l.u) l.laid.rules.now l.reach) (set_of l.fn.joint) l.initial.exclusions (set_of l.literal-iterator.left) l.exclusions
