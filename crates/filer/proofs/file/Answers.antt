@@ -1,5 +1,6 @@
 -- By what the common part says.
 use mathlib.Core.Path.{sym, ap, ◌∙◌}
+use Rattle.std.proofs.lemmas.Result.{err_from_is_err_and}
 use Rattle.calls.specs.Verdicts.{told}
 use Rattle.filing.proofs.Refusals.{file_accepted}
 use Rattle.filer.proofs.Rules.{accepted_long, accepted_short}
@@ -8,7 +9,8 @@ use native.Mathlib.Omega.{arith}
 use Rattle.filer.proofs.file.Goals as goal
 
 pub returns-in_err-admit : goal.returns-in_err-admit
-returns-in_err-admit c = file_turned _ _ _ _ _ (sym c.admit.ensures ∙ ap told c.in_err-admit.was)
+returns-in_err-admit c = let p = err_from_is_err_and c.from_residual.result c.from_residual.ensures.1 in rw (p.1, p.2)
+    (file_turned _ _ _ _ _ (sym c.admit.ensures ∙ ap told c.in_err-admit.was))
 
 pub number_at-rules-requires : goal.number_at-rules-requires
 number_at-rules-requires c = omega (arith, accepted_long _ (file_accepted _ _ _ (sym c.admit.ensures ∙ ap told c.in_ok-admit.was)).0)

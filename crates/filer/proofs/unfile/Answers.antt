@@ -2,6 +2,7 @@
 use mathlib.Core.Path.{sym, ap, ◌∙◌}
 use Prim.Native.Nat.{◌≤◌}
 use lib.ListN.{get_or-replicate}
+use Rattle.std.proofs.lemmas.Result.{err_from_is_err_and}
 use Rattle.calls.specs.Verdicts.{told}
 use Rattle.filing.proofs.Refusals.{file_accepted}
 use Rattle.filer.proofs.Rules.{accepted_short}
@@ -12,7 +13,8 @@ use borrow.Author.Rules.{rules}
 use Rattle.filer.proofs.unfile.Goals as goal
 
 pub returns-in_err-admit : goal.returns-in_err-admit
-returns-in_err-admit c = unfile_turned c.args.image.now c.args.numbers.now c.args.out.now _ _ (unfile_first c.args.image.now c.args.numbers.now c.args.out.now _ _ (sym c.admit.ensures ∙ ap told c.in_err-admit.was))
+returns-in_err-admit c = let p = err_from_is_err_and c.from_residual.result c.from_residual.ensures.1 in rw (p.1, p.2)
+    (unfile_turned c.args.image.now c.args.numbers.now c.args.out.now _ _ (unfile_first c.args.image.now c.args.numbers.now c.args.out.now _ _ (sym c.admit.ensures ∙ ap told c.in_err-admit.was)))
 
 pub number_at-rules-requires : goal.number_at-rules-requires
 number_at-rules-requires c = omega (arith, accepted_long _ (file_accepted _ _ _ (sym c.admit.ensures ∙ ap told c.in_ok-admit.was)).0)
@@ -24,14 +26,14 @@ invert-requires c = let a = file_accepted _ _ _ (sym c.admit.ensures ∙ ap told
 
 pub returns-then-not-invert : goal.returns-then-not-invert
 returns-then-not-invert c = let e = sym c.admit.ensures ∙ ap told c.in_ok-admit.was in
-    unfile_turned _ _ _ _ _ (unfile_numbers c.args.image.now c.args.numbers.now c.args.out.now e _ c.number_at-rules.ensures (sym c.if-not-invert.true ∙ c.invert.ensures.0))
+    rw c.at.ensures (unfile_turned _ _ _ _ _ (unfile_numbers c.args.image.now c.args.numbers.now c.args.out.now e _ c.number_at-rules.ensures (sym c.if-not-invert.true ∙ c.invert.ensures.0)))
 
 pub ascends-requires : goal.ascends-requires
 ascends-requires c = ((file_accepted _ _ _ (sym c.admit.ensures ∙ ap told c.in_ok-admit.was)).0, c.number_at-rules.ensures)
 
 pub returns-then-not-ascends : goal.returns-then-not-ascends
 returns-then-not-ascends c = let e = sym c.admit.ensures ∙ ap told c.in_ok-admit.was in
-    unfile_turned _ _ _ _ _ (unfile_form c.args.image.now c.args.numbers.now c.args.out.now e _ c.number_at-rules.ensures (sym c.if-not-ascends.true ∙ c.ascends.ensures))
+    rw c.at-then-not-ascends.ensures (unfile_turned _ _ _ _ _ (unfile_form c.args.image.now c.args.numbers.now c.args.out.now e _ c.number_at-rules.ensures (sym c.if-not-ascends.true ∙ c.ascends.ensures)))
 
 pub write-requires : goal.write-requires
 write-requires c = let e = sym c.admit.ensures ∙ ap told c.in_ok-admit.was in

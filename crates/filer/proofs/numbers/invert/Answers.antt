@@ -7,13 +7,13 @@ pub loop-i-init : goal.loop-i-init
 loop-i-init c = placing_none _ _ _ c.requires.3
 
 pub returns-then-number-count : goal.returns-then-number-count
-returns-then-number-count c = (placing_far _ _ c.requires.0 c.requires.2 c.loop-i.i _ c.loop-i-test.true c.wide-number.ensures.0 c.if-number-count.true, λ e. absurd (false≢true e))
+returns-then-number-count c = (placing_far _ _ c.requires.0 c.requires.2 c.loop-i.i _ c.loop-i-test.true c.from-number.ensures c.if-number-count.true, λ e. absurd (false≢true e))
 
 pub returns-then-places-number : goal.returns-then-places-number
-returns-then-places-number c = (placing_again _ _ c.requires.0 c.requires.2 _ _ c.loop-i.i _ c.loop-i-test.true c.wide-number.ensures.0 (omega (arith, c.if-number-count.false)) c.if-places-number.true c.loop-i.invariant, λ e. absurd (false≢true e))
+returns-then-places-number c = (placing_again _ _ c.requires.0 c.requires.2 _ _ c.loop-i.i _ c.loop-i-test.true c.from-number.ensures (omega (arith, c.if-number-count.false)) c.if-places-number.true c.loop-i.invariant, λ e. absurd (false≢true e))
 
 pub loop-i-preserved : goal.loop-i-preserved
-loop-i-preserved c = placing_next _ _ c.requires.0 c.requires.2 _ _ c.loop-i.i _ c.requires.1 c.loop-i-test.true c.wide-number.ensures.0 (omega (arith, c.if-number-count.false)) c.if-places-number.false c.loop-i.invariant
+loop-i-preserved c = placing_next _ _ c.requires.0 c.requires.2 _ _ c.loop-i.i _ c.requires.1 c.loop-i-test.true c.from-number.ensures (omega (arith, c.if-number-count.false)) c.if-places-number.false c.loop-i.invariant
 
 pub returns : goal.returns
 returns c = placing_done _ _ c.requires.0 c.requires.2 _ _ c.loop-i.i (omega arith) c.loop-i-test.false c.loop-i.invariant
