@@ -14,7 +14,12 @@ use Rattle.layout.specs.Layout.{rules_of}
 use Rattle.calls.specs.Verdicts.{cause_of}
 use Rattle.writing.specs.Image.{Bytes}
 use Rattle.calls.specs.Outcomes as outcomes
-use Rattle.calls.specs.Outcomes.{by_verdict}
+use Rattle.std.specs.Prelude.{Result, Ok, Err}
+use Rattle.std.specs.Result.{is_ok}
+use Rattle.lists.specs.Lists.{choose}
+use Rattle.layout.specs.declared.Refusal.{Refusal}
+use Rattle.layout.specs.Causes.{number_of}
+use Rattle.calls.specs.Outcomes.{by_verdict, outcome_of}
 use Rattle.calls.specs.Calls.{check_image, front}
 use Rattle.filing.specs.Calls.{filed_image, file_verdict, filed_by, file_table, file_numbers, typed_image, unfile_verdict, unfiled_by, unfile_table}
 use Rattle.filing.specs.Claims.{form_left, RoundTrip}
@@ -114,3 +119,9 @@ module _ (s form numbers back : List ℕ) where
           sym (by_room true (le-leb (length s) (length back) k)),
           ap (λ (l : List ℕ). unfile_table l given back) part_is ∙ (trip k).exact,
         )
+
+    -- either way
+    pub done : (r : Result ℕ Refusal) → unfiled_by part given (length back) ≡ outcome_of r
+        → (is_ok r ≡ result) × (unfile_table part given back ≡ choose (is_ok r) (front s back) back)
+    done (Ok n) h = comes_back_lem n h
+    done (Err r) h = stays_there (number_of r.cause) r.place h
