@@ -2,19 +2,16 @@
 use mathlib.Core.Path.{◌≡◌, sym, ap, ◌∙◌}
 use mathlib.Core.Bool.{true, not, ◌&&◌, false≢true}
 use mathlib.Core.List.{List}
-use Prim.Native.Nat.{ℕ, ◌+◌, ◌/◌, ◌^◌, ◌<◌}
+use Prim.Native.Nat.{ℕ, ◌/◌, ◌^◌}
 use native.Mathlib.Decide.{ℕ_discrete}
-use native.Mathlib.Omega.{arith}
-use lib.Bits.{bit_and, and_le_r}
-use lib.ListN.{get_or}
+use lib.Bits.{bit_and}
 use lib.Dec.{eqb}
 use borrow.Author.Tests.{ne_eqb}
-use Rattle.literals.specs.Sets.{has, minus, within, LowestBelow}
+use Rattle.literals.specs.Sets.{has, minus, within}
 use Rattle.literals.proofs.Tests.{and_intro, and_left, and_right}
 use Rattle.literals.proofs.Members.{has_and, has_empty, has_minus_power}
-use Rattle.literals.proofs.Within.{within_refl, within_trans, within_each, minus_within}
 use Rattle.program.specs.Inside.Table.{body_at, need_at}
-use Rattle.rows.specs.Steps.{LowWord, Met, Readable, Ready}
+use Rattle.rows.specs.Steps.{LowWord, Met, Ready}
 
 -- with no literal left, and with one literal more
 pub met_none : (f : ℕ → ℕ) (literals s : ℕ) → literals ≡ 0 → Met f literals s s
@@ -52,30 +49,6 @@ module _ (f : ℕ → ℕ) (literals s b : ℕ) (member : has literals b ≡ tru
       at : (k : ℕ) → has x k ≡ true → (j : ℕ) → has literals j ≡ true → Dec (j ≡ b) → has (f j) k ≡ true
       at k h j g (yes e) = ap (λ (i : ℕ). has (f i) k) e ∙ (both k (m.started k h)).1
       at k h j g (no n) = m.each k h j (kept j g n)
-
--- what is left of the literals is left to be met
-pub record Meeting (f : ℕ → ℕ) (literals start left x : ℕ) : Type 0 where
-  pub part : within left literals ≡ true
-  pub rest : (r : ℕ) → Met f left x r → Met f literals start r
-
-pub meeting_all : (f : ℕ → ℕ) (literals start left : ℕ) → left ≡ literals → Meeting f literals start left start
-meeting_all f literals start left e = rw e (record { part = within_refl literals; rest = λ r m. m })
-
-pub meeting_more : (f : ℕ → ℕ) (literals start left x b next : ℕ) → LowestBelow 128 left b → minus left (2 ^ b) ≡ next
-    → Meeting f literals start left x → Meeting f literals start next (bit_and x (f b))
-meeting_more f literals start left x b next lowest e so = rw (← e) (record {
-  part = within_trans (minus left (2 ^ b)) left literals (minus_within left (2 ^ b)) so.part;
-  rest = λ r m. so.rest r (met_more f left x b lowest.member r m);
-})
-
-pub meeting_none : (f : ℕ → ℕ) (literals start left x : ℕ) → left ≡ 0 → Meeting f literals start left x → Met f literals start x
-meeting_none f literals start left x e so = so.rest x (met_none f left x e)
-
--- the word that is read is in the table
-pub word_inside : (keep base : List ℕ) (n literals left l w : ℕ) → Readable keep base n literals → within left literals ≡ true → has left l ≡ true
-    → get_or base l 0 + bit_and w (get_or keep l 0) < n
-word_inside keep base n literals left l w readable part member =
-    omega (arith, (readable l (within_each left literals part l member)).1, and_le_r w (get_or keep l 0))
 
 -- the masks in which a rule is on
 pub ready_met : (t : List ℕ) (i w : ℕ) (f : ℕ → ℕ) (body : ℕ) → body ≡ body_at t i → (s x : ℕ) → LowWord (need_at t i) s

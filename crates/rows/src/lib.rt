@@ -120,20 +120,15 @@ fn fire_word(
     true
 }
 
-// The masks of the start for which the rows have each literal of a set. The two words have a loop each: one loop over the set
-// misses the speed of these, by a sixth where bodies are short.
+// The masks of the start for which the rows have each literal of a set.
 fn meet(keep: &[u64], base: &[u64], rows: &[u64], w: u64, literals: LiteralSet, start: u64) -> u64
     requires keep_len { (length keep.now ≡ 128) × (length base.now ≡ 128) }
     requires readable { Readable keep.now base.now (length rows.now) (set_of literals) }
     ensures { Met (word_of keep.now base.now rows.now w) (set_of literals) start result }
 {
     let mut x = start;
-    for low in masks::bits(literals.lo) {
-        let l = low as usize;
-        x = x & rows[(base[l] + (w & keep[l])) as usize];
-    }
-    for high in masks::bits(literals.hi) {
-        let l = (64 + high) as usize;
+    for literal in literals {
+        let l = literal as usize;
         x = x & rows[(base[l] + (w & keep[l])) as usize];
     }
     x

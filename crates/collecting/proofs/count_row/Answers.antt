@@ -20,12 +20,6 @@ loop-w-init c = rw (c.into_iter-w-iterator.ensures.into_iter_gives, c.words-w-it
   marks = row_start _ _ _;
 })
 
-pub count_word-found-requires : goal.count_word-found-requires
-count_word-found-requires c = record {
-  laid = (c.requires.0, c.requires.1, c.loop-w.invariant.sized ∙ c.requires.2);
-  literal_value = (next (goal.at.count_word-found-requires c).In-Some).inside;
-}
-
 pub overflow_add-found : goal.overflow_add-found
 overflow_add-found c = omega (arith, c.loop-w.invariant.left.rest, row_few c.args.rows.now c.args.literal, c.count_word-found.ensures.value.1)
 

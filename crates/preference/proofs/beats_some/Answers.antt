@@ -37,9 +37,6 @@ module _ {t : List ℕ} {x z rest : ℕ} (left : Left t x z rest) (b mask : ℕ)
         ∙ left.same p limits holds below;
   }
 
-pub loop-bit-init : goal.loop-bit-init
-loop-bit-init c = rw (c.into_iter-bit-iterator.ensures.into_iter_gives, c.bits-bit-items.ensures) (record { fewer = omega arith; same = λ p limits holds below. refl })
-
 pub beaten-requires : goal.beaten-requires
 beaten-requires c = omega (arith, has_bound c.loop-bit.bit-iterator.left 16 c.in-Some.bit (omega (arith, c.loop-bit.invariant.fewer)) c.in-Some.ensures.steps.0.member)
 

@@ -1,12 +1,13 @@
--- `meet` meets its contract: the literals of the low word, and then those of the high one.
-use Prim.Native.Nat.{◌^◌, ◌<◌}
-use Rattle.literals.specs.Inside.Words.{joined, set_of}
+-- `meet` meets its contract.
+use mathlib.Core.Path.{◌≡◌}
+use Prim.Native.Nat.{ℕ}
+use mathlib.Core.Bool.{true}
+use Rattle.literals.specs.Sets.{within}
+use Rattle.literals.specs.Inside.Words.{set_of}
+use Rattle.rows.specs.Steps.{Met}
 use Rattle.rows.specs.Layout.{word_of}
-use Rattle.rows.proofs.Meets.{Meeting}
 use Rattle.rows.proofs.meet.Given as goal
 
-abbrev pub invariant-loop-low : goal.invariant-loop-low
-invariant-loop-low l = (l.low-iterator.left < 2 ^ 64) × Meeting (word_of l.keep l.base l.rows l.w) (set_of l.literals) l.start (joined l.literals.hi l.low-iterator.left) l.x
-
-abbrev pub invariant-loop-high : goal.invariant-loop-high
-invariant-loop-high l = Meeting (word_of l.keep l.base l.rows l.w) (set_of l.fn.literals) l.start (joined l.high-iterator.left 0) l.x
+abbrev pub invariant-loop-literal : goal.invariant-loop-literal
+invariant-loop-literal l = ((r : ℕ) → Met (word_of l.keep l.base l.rows l.w) (set_of l.literal-iterator.left) l.x r → Met (word_of l.keep l.base l.rows l.w) (set_of l.fn.literals) l.start r)
+    × (within (set_of l.literal-iterator.left) (set_of l.fn.literals) ≡ true)
