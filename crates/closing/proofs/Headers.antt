@@ -4,10 +4,11 @@ use mathlib.Core.Bool.{true, false, false≢true}
 use mathlib.Core.List.{List, ◌++◌}
 use Prim.Native.Nat.{ℕ, ◌+◌, ◌-◌, ◌^◌, ◌<◌, ◌≤◌}
 use native.Mathlib.Omega.{arith}
-use lib.ListN.{length, get_or, set, take, drop, length-set, length-append, length-drop, get_or-append}
+use lib.ListN.{length, get_or, set, take, drop, get_or-replicate, length-set, length-append, length-drop, get_or-append}
 use lib.Seq.{length-take-le, get_or-append-add, get_or-drop, get_or-set_same, get_or-set_other}
 use Rattle.literals.specs.Sets.{has}
 use Rattle.literals.proofs.Members.{has_bound}
+use Rattle.closing.specs.declared.TheConstants.{FULL}
 use Rattle.closing.specs.Inside.Steps.{Scattered, Blank, Header}
 
 -- h is put for the first 260 words, all of it 0, and then the full word
@@ -35,24 +36,21 @@ module _ (c h : List ℕ) (long : 260 ≤ length c) (part : length h ≡ length 
   }
 
 -- a word that is none of those that are written is as it was
-pub past : (at s : ℕ) (f : ℕ → ℕ) (c d : List ℕ) → s < 2 ^ 128 → Scattered at s 0 f c d → (i : ℕ) → at + 128 ≤ i → get_or d i 0 ≡ get_or c i 0
+pub past : (at s : ℕ) (f : ℕ → ℕ) (c d : List ℕ) → s < 2 ^ 128 → Scattered at s f c d → (i : ℕ) → at + 128 ≤ i → get_or d i 0 ≡ get_or c i 0
 past at s f c d fits so i h = so.miss i (λ b e q. omega (arith, has_bound s 128 b fits e))
 
-pub before : (at s : ℕ) (f : ℕ → ℕ) (c d : List ℕ) → Scattered at s 0 f c d → (i : ℕ) → i < at → get_or d i 0 ≡ get_or c i 0
+pub before : (at s : ℕ) (f : ℕ → ℕ) (c d : List ℕ) → Scattered at s f c d → (i : ℕ) → i < at → get_or d i 0 ≡ get_or c i 0
 before at s f c d so i h = so.miss i (λ b e q. omega arith)
 
-pub at_hit : (at s : ℕ) (f : ℕ → ℕ) (c d : List ℕ) → Scattered at s 0 f c d → (l : ℕ) → has s l ≡ true → get_or d (at + l) 0 ≡ f l
-at_hit at s f c d so l h =
-    let e : at + (0 + l) ≡ at + l = omega arith in
-    let z : 0 + l ≡ l = omega arith in
-    ap (λ (i : ℕ). get_or d i 0) (sym e) ∙ so.hit l h ∙ ap f z
+pub at_hit : (at s : ℕ) (f : ℕ → ℕ) (c d : List ℕ) → Scattered at s f c d → (l : ℕ) → has s l ≡ true → get_or d (at + l) 0 ≡ f l
+at_hit at s f c d so l h = so.hit l h
 
-pub at_miss : (at s : ℕ) (f : ℕ → ℕ) (c d : List ℕ) → Scattered at s 0 f c d → (l : ℕ) → has s l ≡ false → get_or d (at + l) 0 ≡ get_or c (at + l) 0
+pub at_miss : (at s : ℕ) (f : ℕ → ℕ) (c d : List ℕ) → Scattered at s f c d → (l : ℕ) → has s l ≡ false → get_or d (at + l) 0 ≡ get_or c (at + l) 0
 at_miss at s f c d so l h =
     so.miss (at + l) (λ b e q. false≢true (sym h ∙ ap (has s) (let z : l ≡ b = omega arith in z) ∙ e))
 
 module _ (d s n v : ℕ) (keep base c t₁ t₂ t₃ t₄ : List ℕ) (long : 260 ≤ length c) (d_fits : d < 2 ^ 128) (s_fits : s < 2 ^ 128) (blank : Blank c t₁)
-    (begun : Scattered 2 s 0 (λ l. get_or base l 0) t₁ t₂) (kept : Scattered 131 s 0 (λ l. get_or keep l 0) t₂ t₃) (full : Scattered 2 d 0 (λ _. 1) t₃ t₄) where
+    (begun : Scattered 2 s (λ l. get_or base l 0) t₁ t₂) (kept : Scattered 131 s (λ l. get_or keep l 0) t₂ t₃) (full : Scattered 2 d (λ l. get_or FULL l 0) t₃ t₄) where
   abbrev t₅ : List ℕ
   t₅ = set t₄ 130 n
 
@@ -71,7 +69,7 @@ module _ (d s n v : ℕ) (keep base c t₁ t₂ t₃ t₄ : List ℕ) (long : 26
 
   keeps : (l : ℕ) → l < 128 → get_or t₆ (131 + l) 0 ≡ get_or t₃ (131 + l) 0
   keeps l h =
-      stored (131 + l) (λ e. omega arith) (λ e. omega arith) ∙ past 2 d (λ _. 1) t₃ t₄ d_fits full (131 + l) (omega arith)
+      stored (131 + l) (λ e. omega arith) (λ e. omega arith) ∙ past 2 d (λ l. get_or FULL l 0) t₃ t₄ d_fits full (131 + l) (omega arith)
 
   blank_keeps : (l : ℕ) → l < 128 → get_or t₂ (131 + l) 0 ≡ 0
   blank_keeps l h =
@@ -79,24 +77,24 @@ module _ (d s n v : ℕ) (keep base c t₁ t₂ t₃ t₄ : List ℕ) (long : 26
 
   low_word : (i : ℕ) → i < 2 → get_or t₆ i 0 ≡ get_or t₁ i 0
   low_word i h =
-      stored i (λ e. omega arith) (λ e. omega arith) ∙ before 2 d (λ _. 1) t₃ t₄ full i h
+      stored i (λ e. omega arith) (λ e. omega arith) ∙ before 2 d (λ l. get_or FULL l 0) t₃ t₄ full i h
       ∙ before 131 s (λ l. get_or keep l 0) t₂ t₃ kept i (omega arith) ∙ before 2 s (λ l. get_or base l 0) t₁ t₂ begun i h
 
   pub header : Header d s n v keep base c (set (set t₄ 130 n) 259 v)
   header = record {
     sized = length-set t₅ 259 v ∙ length-set t₄ 130 n ∙ header_length;
     rows = λ i h.
-        stored i (λ e. omega arith) (λ e. omega arith) ∙ past 2 d (λ _. 1) t₃ t₄ d_fits full i (omega arith)
+        stored i (λ e. omega arith) (λ e. omega arith) ∙ past 2 d (λ l. get_or FULL l 0) t₃ t₄ d_fits full i (omega arith)
         ∙ past 131 s (λ l. get_or keep l 0) t₂ t₃ s_fits kept i (omega arith) ∙ past 2 s (λ l. get_or base l 0) t₁ t₂ s_fits begun i (omega arith) ∙ blank.rows i h;
     empty = low_word 0 (omega arith) ∙ blank.empty 0 (omega arith) (λ e. omega arith);
     full = low_word 1 (omega arith) ∙ blank.full;
-    derived_begins = λ l h e. stored (2 + l) (λ q. omega arith) (λ q. omega arith) ∙ at_hit 2 d (λ _. 1) t₃ t₄ full l e;
+    derived_begins = λ l h e. stored (2 + l) (λ q. omega arith) (λ q. omega arith) ∙ at_hit 2 d (λ l. get_or FULL l 0) t₃ t₄ full l e ∙ get_or-replicate {A = ℕ} 128 l 1 0 h;
     live_begins = λ l h e o.
-        stored (2 + l) (λ q. omega arith) (λ q. omega arith) ∙ at_miss 2 d (λ _. 1) t₃ t₄ full l o ∙ begins l h
+        stored (2 + l) (λ q. omega arith) (λ q. omega arith) ∙ at_miss 2 d (λ l. get_or FULL l 0) t₃ t₄ full l o ∙ begins l h
         ∙ at_hit 2 s (λ l. get_or base l 0) t₁ t₂ begun l e;
     live_keeps = λ l h e. keeps l h ∙ at_hit 131 s (λ l. get_or keep l 0) t₂ t₃ kept l e;
     dead_begins = λ l h e o.
-        stored (2 + l) (λ q. omega arith) (λ q. omega arith) ∙ at_miss 2 d (λ _. 1) t₃ t₄ full l o ∙ begins l h
+        stored (2 + l) (λ q. omega arith) (λ q. omega arith) ∙ at_miss 2 d (λ l. get_or FULL l 0) t₃ t₄ full l o ∙ begins l h
         ∙ at_miss 2 s (λ l. get_or base l 0) t₁ t₂ begun l e ∙ blank.empty (2 + l) (omega arith) (λ q. omega arith);
     dead_keeps = λ l h e. keeps l h ∙ at_miss 131 s (λ l. get_or keep l 0) t₂ t₃ kept l e ∙ blank_keeps l h;
     bottom_begins =

@@ -163,8 +163,7 @@ module _ (u keep base : List ℕ) (d s q n v : ℕ) (plan : Planned u keep base 
               found (a, small, x, y) =
                   let member = plan.pairs.passes a (plan_derivable p u d s so (2 * a) m x) (plan_derivable p u d s so (2 * a + 1) m y) in
                   ap (λ (z : ℕ). has z (m % 64)) (bottom_word w)
-                  ∙ word.passes (m % 64) (2 * a) member (at (2 * a) (omega arith) (plan.spans (2 * a) member).0 ∙ x)
-                  (at (2 * a + 1) (omega arith) (plan.spans (2 * a) member).1 ∙ y)
+                  ∙ word.passes (m % 64) (2 * a, member, at (2 * a) (omega arith) (plan.spans (2 * a) member).0 ∙ x, at (2 * a + 1) (omega arith) (plan.spans (2 * a) member).1 ∙ y)
 
       pub table_tells : Tells p.rules e
       table_tells = record {

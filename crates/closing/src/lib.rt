@@ -10,10 +10,14 @@ ghost use Rattle.rows.specs.Switched.{NeedsOne};
 ghost use Rattle.live.specs.Live.{LiveRules};
 ghost use Rattle.closures.specs.Inside.Table.{begins_at, keeps_at, Laid, Tells};
 ghost use Rattle.closing.specs.Inside.Plan.{Reach, Pairs, Planned, PlanOf};
-ghost use Rattle.closing.specs.Inside.Steps.{Scattered, Blank, Header, Clashed, ClashWord, ClashRow};
+ghost use Rattle.closing.specs.Inside.Steps.{Scattered, Blank, Header, ClashWord, ClashRow};
 
-use literals::{LiteralSet, masks};
+use literals::LiteralSet;
 use program::RuleTable;
+use rows::span;
+
+// The rows of the literals that Π derives begin at word 1, the full one.
+const FULL: [u64; 128] = [1; 128];
 
 // What Π derives, and what is derived with all rules and not by Π.
 #[derive(Clone, Copy)]
@@ -41,20 +45,17 @@ pub fn plan(table: &RuleTable, live: &mut RuleTable, keep: &mut [u64], base: &mu
         (set_of result.pairs) result.end result.span }
     ensures plan_of { (p : Program) → Holds p table.now → PlanOf p live.new (set_of result.derived) (set_of result.literals) }
 {
-    let reached = reach(table);
-    let derived = reached.derived;
-    let literals = reached.literals;
+    let Reached { derived, literals } = reach(table);
     live::live_rules(table, derived, literals, live);
     plans::bearing(live, keep);
     let end = plans::place(keep, literals, 260, base);
     let pairs = pairs_of(derived.union(literals));
-    let low = span_of(keep, pairs.lo, 0, 0);
     Ground {
-        derived: derived,
-        literals: literals,
-        pairs: pairs,
-        end: end,
-        span: span_of(keep, pairs.hi, 64, low),
+        derived,
+        literals,
+        pairs,
+        end,
+        span: span_of(keep, pairs),
     }
 }
 
@@ -78,7 +79,7 @@ pub fn reach(table: &RuleTable) -> Reached
     let derived = derivation::close(table, 0, LiteralSet::empty());
     let all = derivation::close(table, 0xFFFF_FFFF_FFFF_FFFF, LiteralSet::empty());
     Reached {
-        derived: derived,
+        derived,
         literals: all.minus(derived),
     }
 }
@@ -88,29 +89,26 @@ fn pairs_of(set: LiteralSet) -> LiteralSet
     ensures { Pairs (set_of set) (set_of result) }
 {
     let mut found = LiteralSet::empty();
-    let mut l: u64 = 0;
-    while l < 128 {
+    for atom in 0..64 {
+        let l = 2 * atom;
         if set.has(l) & set.has(l + 1) {
             found = found.insert(l);
         }
-        l += 2;
     }
     found
 }
 
-// The start with what bears on the literals of a word, the first of which is literal `first`, and on those after them.
-fn span_of(keep: &[u64], word: u64, first: u64, start: u64) -> u64
-    requires keep_len { (length keep.now ≡ 128) × (first ≤ 64) × (start < 1024) }
-    requires by_index { ((b : ℕ) → has_of word b ≡ true → b < 63) × ((l : ℕ) → get_or keep.now l 0 < 1024) }
-    ensures { (result < 1024) × (within_of start result ≡ true) × ((b : ℕ) → has_of word b ≡ true
-        → (within_of (get_or keep.now (first + b) 0) result ≡ true) × (within_of (get_or keep.now (first + b + 1) 0) result ≡ true)) }
+// What bears on the literals of a set and on those after them.
+fn span_of(keep: &[u64], pairs: LiteralSet) -> u64
+    requires keep_len { length keep.now ≡ 128 }
+    requires by_index { ((l : ℕ) → has_of (set_of pairs) l ≡ true → l < 127) × ((l : ℕ) → get_or keep.now l 0 < 1024) }
+    ensures { (result < 1024) × ((l : ℕ) → has_of (set_of pairs) l ≡ true
+        → (within_of (get_or keep.now l 0) result ≡ true) × (within_of (get_or keep.now (l + 1) 0) result ≡ true)) }
 {
-    let mut x = start;
-    let mut left = word;
-    while left != 0 {
-        let l = (first + masks::lowest(left)) as usize;
+    let mut x: u64 = 0;
+    for literal in pairs {
+        let l = literal as usize;
         x = x | (keep[l] | keep[l + 1]);
-        left = masks::rest(left);
     }
     x
 }
@@ -122,10 +120,9 @@ fn lay(plan: Ground, keep: &[u64], base: &[u64], rows: &mut [u64])
         rows.old rows.new }
 {
     blank(rows);
-    scatter(rows, 2, base, plan.literals);
-    scatter(rows, 131, keep, plan.literals);
-    mark(rows, plan.derived.lo, 0);
-    mark(rows, plan.derived.hi, 64);
+    scatter(rows, 2, plan.literals, base);
+    scatter(rows, 131, plan.literals, keep);
+    scatter(rows, 2, plan.derived, &FULL);
     rows[130] = plan.end;
     rows[259] = plan.span;
 }
@@ -139,40 +136,14 @@ fn blank(rows: &mut [u64])
     rows[1] = 0xFFFF_FFFF_FFFF_FFFF;
 }
 
-// The rows of the literals of a word, the first of which is literal `first`, are the full word.
-fn mark(rows: &mut [u64], word: u64, first: u64)
-    requires { (first ≤ 64) × (260 ≤ length rows.old) }
-    ensures word_bound { word < 2 ^ 64 }
-    ensures scattered { Scattered 2 word first (λ _. 1) rows.old rows.new }
-{
-    let mut left = word;
-    while left != 0 {
-        let l = first + masks::lowest(left);
-        rows[(2 + l) as usize] = 1;
-        left = masks::rest(left);
-    }
-}
-
 // Puts the values of the literals of a set at the words from `at` on.
-fn scatter(table: &mut [u64], at: u64, values: &[u64], set: LiteralSet)
+fn scatter(table: &mut [u64], at: u64, set: LiteralSet, values: &[u64])
     requires { (at ≤ 131) × (length values.now ≡ 128) × (260 ≤ length table.old) }
     ensures set_bound { set_of set < 2 ^ 128 }
-    ensures scattered { Scattered at (set_of set) 0 (λ l. get_or values.now l 0) table.old table.new }
+    ensures scattered { Scattered at (set_of set) (λ l. get_or values.now l 0) table.old table.new }
 {
-    scatter_word(table, at, values, set.lo, 0);
-    scatter_word(table, at, values, set.hi, 64);
-}
-
-// The same for the literals of a word, the first of which is literal `first`.
-fn scatter_word(table: &mut [u64], at: u64, values: &[u64], word: u64, first: u64)
-    requires { (at ≤ 131) × (first ≤ 64) × (length values.now ≡ 128) × (260 ≤ length table.old) }
-    ensures { Scattered at word first (λ l. get_or values.now l 0) table.old table.new }
-{
-    let mut left = word;
-    while left != 0 {
-        let l = first + masks::lowest(left);
+    for l in set {
         table[(at + l) as usize] = values[l as usize];
-        left = masks::rest(left);
     }
 }
 
@@ -182,29 +153,19 @@ fn clash_row(pairs: LiteralSet, end: u64, span: u64, rows: &mut [u64])
     requires by_index { ((l : ℕ) → has_of (set_of pairs) l ≡ true → (l < 127) × (l % 2 ≡ 0)) × ((l : ℕ) → l < 128 → begins_at rows.old l + keeps_at rows.old l < end) }
     ensures { ClashRow (set_of pairs) end span rows.old rows.new }
 {
-    let mut w = span;
-    loop {
-        let low = clash_word(rows, pairs.lo, 0, w, 0);
-        let x = clash_word(rows, pairs.hi, 64, w, low);
-        rows[(end + w) as usize] = x;
-        if w == 0 {
-            return;
-        }
-        w = (w - 1) & span;
+    for w in span::words(span) {
+        rows[(end + w) as usize] = clash_word(rows, pairs, w);
     }
 }
 
-// The start with the masks from 64 w on that derive a literal of a word, the first of which is literal `first`, and the one after it.
-fn clash_word(rows: &[u64], word: u64, first: u64, w: u64, start: u64) -> u64
-    requires { (Laid rows.now) × (first ≤ 64) × ((b : ℕ) → has_of word b ≡ true → b < 63) }
-    ensures { Clashed rows.now word first w start result }
+// The masks from 64 w on that derive a literal of a set and the one after it.
+fn clash_word(rows: &[u64], pairs: LiteralSet, w: u64) -> u64
+    requires { (Laid rows.now) × ((l : ℕ) → has_of (set_of pairs) l ≡ true → l < 127) }
+    ensures { ClashWord rows.now (set_of pairs) w result }
 {
-    let mut x = start;
-    let mut left = word;
-    while left != 0 {
-        let l = first + masks::lowest(left);
+    let mut x: u64 = 0;
+    for l in pairs {
         x = x | (closures::word(rows, l, w) & closures::word(rows, l + 1, w));
-        left = masks::rest(left);
     }
     x
 }

@@ -6,7 +6,6 @@ use mathlib.Core.List.{List}
 use Prim.Native.Nat.{ℕ, zero, suc, ◌+◌, ◌-◌, ◌*◌, ◌^◌, ◌<◌, ◌≤◌}
 use native.Mathlib.Nat.{add-zero, zero-add, add_assoc, suc-mul}
 use native.Mathlib.Omega.{arith}
-use lib.Bits.{bit_and, and_le_l}
 use lib.Count.{ones}
 use lib.ListN.{length, length-append}
 use Rattle.lists.specs.Lists.{choose, keep}
@@ -15,7 +14,7 @@ use Rattle.literals.proofs.Members.{has_empty}
 use Rattle.literals.proofs.Within.{within_le}
 use Rattle.argument.specs.List.{picked, list_by}
 use Rattle.listing.proofs.Picks.{members_length}
-use Rattle.rows.proofs.Submasks.{next_submask}
+use Rattle.rows.specs.Span.{Greatest}
 use Rattle.closures.specs.Inside.Table.{keeps_at}
 use Rattle.collecting.specs.Inside.Folds.{fold_from, only, sum}
 use Rattle.collecting.specs.Inside.Columns.{argues, argues_for, Word, one, word_count, row_count, literals_count, list_of}
@@ -119,10 +118,6 @@ module _ (t : List ℕ) (l : ℕ) where
       let e : m ≡ 64 * w + (m - 64 * w) = omega arith in
       ap one (ap (λ (j : ℕ). argues t j l) e ∙ none_beyond t l w low beyond (m - 64 * w) (omega arith)))
 
-  -- the words up to w are left
-  abbrev pub RowLeft : ℕ → ℕ → Type 0
-  RowLeft w found = found + sum (word_count t l) 0 (w + 1) ≡ row_count t l
-
   skipped : (w : ℕ) → w < 1024 → (within w (keeps_at t l) ≡ true → ⊥) → word_count t l w ≡ 0
   skipped w low n = go (within w (keeps_at t l)) refl
     where
@@ -130,27 +125,35 @@ module _ (t : List ℕ) (l : ℕ) where
       go true e = absurd (n e)
       go false e = beyond_none w low e
 
-  pub row_all : (span found : ℕ) → span ≡ keeps_at t l → span < 1024 → found ≡ 0 → RowLeft span found
-  row_all span found e low z =
-      let short = sum_short (word_count t l) (span + 1) 1024 (omega arith) (λ j a b.
-      skipped j (omega arith) (λ i. omega (arith, within_le j (keeps_at t l) i))) in
-      omega (arith, short)
+  -- the words below e are left
+  pub record RowLeft (e found : ℕ) : Type 0 where
+    pub low : e ≤ 1024
+    pub rest : found + sum (word_count t l) 0 e ≡ row_count t l
 
-  pub row_next : (span w found n : ℕ) → span ≡ keeps_at t l → span < 1024 → within w span ≡ true → (w ≡ 0 → ⊥)
-      → RowLeft w found → n ≡ word_count t l w → RowLeft (bit_and (w - 1) span) (found + n)
-  row_next span w found n e low kept some left is =
-      let h = within_le w span kept in
-      let last = sum_last (word_count t l) w in
-      let below : bit_and (w - 1) span + 1 ≤ w = omega (arith, and_le_l (w - 1) span) in
-      let short = sum_short (word_count t l) (bit_and (w - 1) span + 1) w below (λ j a b.
-      skipped j (omega arith) (λ i. omega (arith, next_submask w span j kept (ap (within j) e ∙ i) (omega arith)))) in
-      omega (arith, left, last, short, is)
+  pub row_all : keeps_at t l < 1024 → RowLeft (keeps_at t l + 1) 0
+  row_all few = record {
+    low = omega arith;
+    rest =
+        let short = sum_short (word_count t l) (keeps_at t l + 1) 1024 (omega arith) (λ j a b.
+        skipped j (omega arith) (λ i. omega (arith, within_le j (keeps_at t l) i))) in
+        omega (arith, short);
+  }
 
-  pub row_last : (w found n : ℕ) → w ≡ 0 → RowLeft w found → n ≡ word_count t l w → found + n ≡ row_count t l
-  row_last w found n z left is =
-      let last = sum_last (word_count t l) w in
-      let none : sum (word_count t l) 0 w ≡ 0 = ap (sum (word_count t l) 0) z ∙ sum_zero in
-      omega (arith, left, last, none, is)
+  pub row_next : (e w found n : ℕ) → Greatest (keeps_at t l) e w → RowLeft e found → n ≡ word_count t l w → RowLeft w (found + n)
+  row_next e w found n next left is = record {
+    low = omega (arith, next.below, left.low);
+    rest =
+        let last = sum_last (word_count t l) w in
+        let below : w + 1 ≤ e = omega (arith, next.below) in
+        let short = sum_short (word_count t l) (w + 1) e below (λ j a b.
+        skipped j (omega (arith, left.low)) (λ i. omega (arith, next.greatest j i b))) in
+        omega (arith, left.rest, last, short, is);
+  }
+
+  pub row_last : (e found : ℕ) → e ≡ 0 → RowLeft e found → found ≡ row_count t l
+  row_last e found z left =
+      let none : sum (word_count t l) 0 e ≡ 0 = ap (sum (word_count t l) 0) z ∙ sum_zero in
+      omega (arith, left.rest, none)
     where
       sum_zero : sum (word_count t l) 0 0 ≡ 0
       sum_zero = sum_none (word_count t l) 0 0 (λ j a b. absurd (omega arith))

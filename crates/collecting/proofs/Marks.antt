@@ -3,11 +3,10 @@ use mathlib.Core.Path.{◌≡◌, refl, sym, ap, ap₂, ◌∙◌}
 use mathlib.Core.Bool.{true, not}
 use mathlib.Core.List.{List}
 use mathlib.Core.Logic.{◌⊎◌, inl, inr, ⊎_elim}
-use Prim.Native.Nat.{ℕ, ◌+◌, ◌-◌, ◌*◌, ◌/◌, ◌%◌, ◌^◌, ◌<◌, ◌≤◌}
+use Prim.Native.Nat.{ℕ, ◌+◌, ◌*◌, ◌/◌, ◌%◌, ◌^◌, ◌<◌}
 use native.Mathlib.Nat.{eq-or-lt_of_le}
-use native.Mathlib.Decide.{ℕ_discrete, dec_lt}
+use native.Mathlib.Decide.{ℕ_discrete}
 use native.Mathlib.Omega.{arith}
-use lib.Bits.{bit_and}
 use lib.Dec.{eqb}
 use lib.ListN.{length, get_or, set, length-set}
 use lib.Seq.{get_or-set_same, get_or-set_other}
@@ -16,7 +15,7 @@ use Rattle.literals.specs.Sets.{has, insert, minus, within}
 use Rattle.literals.proofs.Tests.{and_intro}
 use Rattle.literals.proofs.Members.{has_not_empty, has_minus_power, has_insert_same, insert_keeps}
 use Rattle.literals.proofs.Within.{within_le, minus_within, within_each}
-use Rattle.rows.proofs.Submasks.{next_submask}
+use Rattle.rows.specs.Span.{Greatest}
 use Rattle.closures.specs.Inside.Table.{keeps_at}
 use Rattle.collecting.specs.Inside.Columns.{argues, Word, marked, Marks, Members, InWord, InRow}
 use Rattle.collecting.proofs.Told.{argues_kept}
@@ -79,41 +78,30 @@ marks_word t u literal w low long = record {
         ∙ insert_keeps (get_or u (w / 64) 0) (w % 64) (v % 64) (ap (λ (i : ℕ). has (get_or u i 0) (v % 64)) (sym e) ∙ h)
     go v h (no n) = ap (λ (x : ℕ). has x (v % 64)) (get_or-set_other u (w / 64) (v / 64) (insert (get_or u (w / 64) 0) (w % 64)) 0 n) ∙ h
 
--- a row: the words up to w are left
-abbrev pub UpTo : ℕ → ℕ → ℕ → ℕ → Type 0
-UpTo literal w l m = (l ≡ literal) × (m < 65536) × (m / 64 ≤ w)
+-- a row: the words below e are left
+abbrev pub Below : ℕ → ℕ → ℕ → ℕ → Type 0
+Below literal e l m = (l ≡ literal) × (m < 65536) × (m / 64 < e)
 
-module _ (t : List ℕ) (literal span : ℕ) (is : span ≡ keeps_at t literal) where
-  kept_here : (l m : ℕ) → l ≡ literal → m < 65536 → argues t m l ≡ true → within (m / 64) span ≡ true
-  kept_here l m e small a =
-      ap (within (m / 64)) is ∙ argues_kept t m literal small (ap (argues t m) (sym e) ∙ a)
+module _ (t : List ℕ) (literal : ℕ) where
+  kept_here : (l m : ℕ) → l ≡ literal → m < 65536 → argues t m l ≡ true → within (m / 64) (keeps_at t literal) ≡ true
+  kept_here l m e small a = argues_kept t m literal small (ap (argues t m) (sym e) ∙ a)
 
-  pub row_start : (u v : List ℕ) → Marks t (UpTo literal span) u v → Marks t (InRow (λ l. l ≡ literal)) u v
+  pub row_start : (u v : List ℕ) → Marks t (Below literal (keeps_at t literal + 1)) u v → Marks t (InRow (λ l. l ≡ literal)) u v
   row_start u v marks = record {
     sized = marks.sized;
     kept = marks.kept;
-    covers = λ l m (e, small) a. marks.covers l m (e, small, within_le (m / 64) span (kept_here l m e small a)) a;
+    covers = λ l m (e, small) a. let low = within_le (m / 64) (keeps_at t literal) (kept_here l m e small a) in marks.covers l m (e, small, omega arith) a;
   }
 
-  pub row_word : (w : ℕ) → within w span ≡ true → (a b c : List ℕ) → Marks t (InWord literal w) a b
-      → Marks t (UpTo literal (bit_and (w - 1) span)) b c → Marks t (UpTo literal w) a c
-  row_word w kept a b c =
-      marks_then t (InWord literal w) (UpTo literal (bit_and (w - 1) span)) (UpTo literal w) a b c (λ l m (e, small, h) g.
-      ⊎_elim (λ q. inl (e, q)) (λ q. inr (e, small, below m q (kept_here l m e small g))) (eq-or-lt_of_le {n = m / 64} {m = w} h))
-    where
-      below : (m : ℕ) → m / 64 < w → within (m / 64) span ≡ true → m / 64 ≤ bit_and (w - 1) span
-      below m q inside = go (dec_lt (bit_and (w - 1) span) (m / 64))
-        where
-          go : Dec (bit_and (w - 1) span < m / 64) → m / 64 ≤ bit_and (w - 1) span
-          go (yes z) = absurd (omega (arith, next_submask w span (m / 64) kept inside z))
-          go (no z) = omega arith
+  pub row_word : (e w : ℕ) → Greatest (keeps_at t literal) e w → (a b c : List ℕ) → Marks t (InWord literal w) a b
+      → Marks t (Below literal w) b c → Marks t (Below literal e) a c
+  row_word e w next a b c =
+      marks_then t (InWord literal w) (Below literal w) (Below literal e) a b c (λ l m (q, small, h) g.
+      ⊎_elim (λ z. inl (q, z)) (λ z. inr (q, small, z))
+      (eq-or-lt_of_le {n = m / 64} {m = w} (next.greatest (m / 64) (kept_here l m q small g) h)))
 
-  pub row_end : (w : ℕ) → w ≡ 0 → (a b : List ℕ) → Marks t (InWord literal w) a b → Marks t (UpTo literal w) a b
-  row_end w z a b marks = record {
-    sized = marks.sized;
-    kept = marks.kept;
-    covers = λ l m (e, small, h) g. marks.covers l m (e, let q : m / 64 ≡ w = omega arith in q) g;
-  }
+  pub row_end : (e : ℕ) → e ≡ 0 → (u : List ℕ) → Marks t (Below literal e) u u
+  row_end e z u = marks_none t (Below literal e) u (λ l m (q, small, h) a. omega arith)
 
 -- a literal, then the others of its set
 pub marks_literal : (t : List ℕ) (s b : ℕ) (u m v : List ℕ) → Marks t (InRow (λ l. l ≡ b)) u m

@@ -17,6 +17,7 @@ ghost use Rattle.collecting.specs.Inside.Columns.{Marks, Members, InWord, InRow,
 
 use listing::arguments;
 use literals::{LiteralSet, masks};
+use rows::span;
 
 // Writes the argument list and returns the number of arguments; `literals` has every literal that some mask derives. They are
 // counted first: a table that is too short is left as it was, and there is no number.
@@ -57,14 +58,10 @@ fn count_row(rows: &[u64], literal: u64, touched: &mut [u64]) -> u64
 {
     let span = closures::span(rows, literal);
     let mut found: u64 = 0;
-    let mut w = span;
-    loop {
+    for w in span::words(span) {
         found += count_word(rows, literal, w, touched);
-        if w == 0 {
-            return found;
-        }
-        w = (w - 1) & span;
     }
+    found
 }
 
 // The arguments for one literal in one word.

@@ -35,27 +35,23 @@ pub fn live_rules(
         taken: LiteralSet::empty(),
         waiting: literals,
     };
-    let mut left: u64 = 96;
-    while 0 < left {
+    for _ in 0..96 {
         let n = taken.n;
-        let waiting = taken.waiting;
-        taken = pass(table, derived, literals, waiting, taken, live);
-        left -= 1;
-        let next = taken.n;
-        if next == n {
-            left = 0;
+        taken = pass(table, derived, literals, taken, live);
+        if taken.n == n {
+            break;
         }
     }
-    let last = pass(table, derived, literals, LiteralSet::empty(), taken, live);
+    taken.waiting = LiteralSet::empty();
+    let last = pass(table, derived, literals, taken, live);
     program::store_counts(live, last.n, 0, 0);
 }
 
-// Each rule once.
+// Each rule once. What waits before is awaited by all.
 fn pass(
     table: &RuleTable,
     derived: LiteralSet,
     literals: LiteralSet,
-    awaited: LiteralSet,
     from: Progress,
     live: &mut RuleTable,
 ) -> Progress
@@ -63,20 +59,15 @@ fn pass(
     requires taken { Taken table.now (set_of derived) (set_of literals) from.n (set_of from.taken) live.old }
     ensures live_len_unchanged { length live.new ≡ length live.old }
     ensures taken_2 { Taken table.now (set_of derived) (set_of literals) result.n (set_of result.taken) live.new }
-    ensures taken_to { TakenTo table.now (set_of derived) (set_of literals) (set_of awaited) (rule_count table.now) (set_of result.taken) }
+    ensures taken_to { TakenTo table.now (set_of derived) (set_of literals) (set_of from.waiting) (rule_count table.now) (set_of result.taken) }
 {
     let rules = program::rule_count(table);
-    let n = from.n;
-    let taken = from.taken;
     let mut p = Progress {
-        n: n,
-        taken: taken,
         waiting: LiteralSet::empty(),
+        ..from
     };
-    let mut i: u64 = 0;
-    while i < rules {
-        p = turn(table, i, derived, literals, awaited, p, live);
-        i += 1;
+    for i in 0..rules {
+        p = turn(table, i, derived, literals, from.waiting, p, live);
     }
     p
 }
@@ -99,8 +90,7 @@ fn turn(
     ensures taken_to { TakenTo table.now (set_of derived) (set_of literals) (set_of awaited) i (set_of p.taken)
         → TakenTo table.now (set_of derived) (set_of literals) (set_of awaited) (i + 1) (set_of result.taken) }
 {
-    let taken = p.taken;
-    if taken.has(i) {
+    if p.taken.has(i) {
         return p;
     }
     let head = program::head(table, i);
@@ -108,19 +98,16 @@ fn turn(
     if !(literals.has(head) & body.within(literals)) {
         return p;
     }
-    let n = p.n;
-    let waiting = p.waiting;
     if body.meets(awaited) {
         return Progress {
-            n: n,
-            taken: taken,
-            waiting: waiting.insert(head),
+            waiting: p.waiting.insert(head),
+            ..p
         };
     }
-    program::store_row(live, n, head, body, program::need(table, i));
+    program::store_row(live, p.n, head, body, program::need(table, i));
     Progress {
-        n: n + 1,
-        taken: taken.insert(i),
-        waiting: waiting,
+        n: p.n + 1,
+        taken: p.taken.insert(i),
+        ..p
     }
 }

@@ -4,6 +4,7 @@ use mathlib.Core.Bool.{Bool, true, false, not, ◌&&◌, ◌||◌, false≢true}
 use Prim.Native.Nat.{ℕ, ◌+◌, ◌-◌, ◌*◌, ◌/◌, ◌%◌, ◌^◌, ◌<◌, ◌≤◌}
 use native.Mathlib.Decide.{dec_lt}
 use native.Mathlib.Nat.{add-zero}
+use native.Mathlib.Numerals.{add-one}
 use native.Mathlib.Omega.{arith}
 use lib.Bits.{bit_or}
 use lib.Dec.{eqb}
@@ -14,7 +15,10 @@ use Rattle.literals.specs.Sets.{has, insert, minus}
 use Rattle.literals.proofs.Tests.{same_test, and_intro, and_left, and_right, not_true_false}
 use Rattle.literals.proofs.Bits.{bit_low, bit_high, bit_le}
 use Rattle.literals.proofs.Members.{has_bit, has_empty, has_minus, minus_power, has_minus_power, has_insert_same, has_union}
+use Rattle.rows.specs.declared.TheConstants.{PLACES}
+use Rattle.rows.proofs.Patterns.{place_at}
 use Rattle.minima.specs.Steps.{Lowered, less_below}
+use lib.ListN.{get_or}
 
 has_low : (h w n k : ℕ) → k < n → has (h * 2 ^ n + w) k ≡ has w k
 unfolding has
@@ -48,11 +52,17 @@ gets_bit : (j b : ℕ) → has j b ≡ false → has (j + 2 ^ b) b ≡ true
 unfolding insert
 gets_bit j b e = ap (λ (x : ℕ). has x b) (sym (ap (λ (t : Bool). choose t j (j + 2 ^ b)) e)) ∙ has_insert_same j b
 
-module _ (x pattern b : ℕ) (few : b < 6) (pattern_is : (k : ℕ) → k < 64 → has pattern k ≡ has k b) where
+module _ (x b : ℕ) (few : b < 6) where
+  abbrev pattern : ℕ
+  pattern = get_or PLACES b 0
+
+  pattern_is : (k : ℕ) → k < 64 → has pattern k ≡ has k b
+  pattern_is k h = place_at b k few h
+
   abbrev rest : ℕ
   rest = minus x pattern
 
-  pub lowers : Lowered x b ((minus x pattern * 2 ^ (2 ^ b)) % 2 ^ 64)
+  pub lowers : Lowered x b ((minus x (get_or PLACES b 0) * 2 ^ (2 ^ b)) % 2 ^ 64)
   lowers k h =
       has_word (rest * 2 ^ (2 ^ b)) k h
       ∙ same_test (has (rest * 2 ^ (2 ^ b)) k) (has k b && has x (minus k (2 ^ b))) (λ e. to e (dec_lt k (2 ^ b))) from
@@ -87,18 +97,9 @@ module _ (x pattern b : ℕ) (few : b < 6) (pattern_is : (k : ℕ) → k < 64 �
           ∙ and_intro (has x (minus k (2 ^ b))) (not (has pattern (minus k (2 ^ b)))) set
           (ap not (pattern_is (minus k (2 ^ b)) small ∙ less_lacks k b))
 
--- the six bits
-module _ (x a b c d e f : ℕ) (pa : Lowered x 0 a) (pb : Lowered x 1 b) (pc : Lowered x 2 c) (pd : Lowered x 3 d)
-    (pe : Lowered x 4 e) (pf : Lowered x 5 f) where
-  pub six_bits : (k : ℕ) → k < 64 → has (bit_or f (bit_or e (bit_or d (bit_or c (bit_or b a))))) k ≡ less_below x k 6
-  unfolding less_below
-  six_bits k h =
-      has_union f (bit_or e (bit_or d (bit_or c (bit_or b a)))) k ∙ ap₂ ◌||◌ (pf k h)
-      (has_union e (bit_or d (bit_or c (bit_or b a))) k ∙ ap₂ ◌||◌ (pe k h)
-      (has_union d (bit_or c (bit_or b a)) k ∙ ap₂ ◌||◌ (pd k h)
-      (has_union c (bit_or b a) k ∙ ap₂ ◌||◌ (pc k h)
-      (has_union b a k ∙ ap₂ ◌||◌ (pb k h) (pa k h ∙ sym (or_false (has k 0 && has x (minus k (2 ^ 0)))))))))
-    where
-      or_false : (t : Bool) → (t || false) ≡ t
-      or_false true = refl
-      or_false false = refl
+-- one bit more
+pub less_more : (x b low y : ℕ) → Lowered x b low → ((k : ℕ) → k < 64 → has y k ≡ less_below x k b)
+    → (k : ℕ) → k < 64 → has (bit_or low y) k ≡ less_below x k (b + 1)
+unfolding less_below
+less_more x b low y lowered before k h =
+    has_union low y k ∙ ap₂ ◌||◌ (lowered k h) (before k h) ∙ ap (less_below x k) (sym (add-one b))

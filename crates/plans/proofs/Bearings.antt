@@ -3,7 +3,7 @@ use mathlib.Core.Path.{◌≡◌, refl, sym, ap, ◌∙◌, subst}
 use mathlib.Core.Bool.{Bool, true, false, not, ◌||◌, false≢true}
 use mathlib.Core.List.{List}
 use mathlib.Core.Logic.{⊎_elim}
-use Prim.Native.Nat.{ℕ, ◌+◌, ◌-◌, ◌/◌, ◌^◌, ◌<◌, ◌≤◌}
+use Prim.Native.Nat.{ℕ, ◌+◌, ◌/◌, ◌^◌, ◌<◌, ◌≤◌}
 use native.Mathlib.Nat.{le_trans, lt_of_lt_of_le, lt_of_le_of_lt}
 use native.Mathlib.Decide.{ℕ_discrete, dec_lt}
 use native.Mathlib.Omega.{arith}
@@ -12,72 +12,53 @@ use lib.Dec.{eqb}
 use lib.ListN.{length, get_or, set, length-set}
 use lib.Seq.{get_or-set_same, get_or-set_other}
 use borrow.Author.Tests.{ne_eqb}
-use Rattle.lists.specs.Lists.{choose}
 use Rattle.literals.specs.Sets.{has, minus, union, within}
-use Rattle.literals.specs.Inside.Words.{joined}
 use Rattle.literals.proofs.Tests.{and_intro, or_cases}
 use Rattle.literals.proofs.Members.{has_empty, has_minus_power}
 use Rattle.literals.proofs.Within.{within_refl, within_trans, within_union_left, within_union_right}
-use Rattle.literals.proofs.Words.{has_joined_low, has_joined_high}
 use Rattle.program.specs.Inside.Table.{head_at, body_at, need_at, rule_count}
-use Rattle.rows.specs.Steps.{slack}
 use Rattle.rows.proofs.Words.{slack_set, union_more}
 use Rattle.rows.specs.Switched.{NeedsOne}
-use Rattle.rows.specs.Layout.{Bearing}
 use Rattle.plans.specs.Steps.{Small, Joined, BearsAt, Bears}
 
 -- no literal left, and one more
-pub joined_none : (keep : List ℕ) (word first s x : ℕ) → word ≡ 0 → x ≡ s → Joined keep word first s x
-joined_none keep word first s x e q = rw (e, q) (record {
+pub joined_none : (keep : List ℕ) (literals s : ℕ) → literals ≡ 0 → Joined keep literals s s
+joined_none keep literals s e = rw e (record {
   started = within_refl s;
-  each = λ b m. absurd (false≢true (sym (has_empty b) ∙ m));
+  each = λ l m. absurd (false≢true (sym (has_empty l) ∙ m));
   small = λ f h. h;
 })
 
-module _ (keep : List ℕ) (word first s b : ℕ) (member : has word b ≡ true) where
+module _ (keep : List ℕ) (literals s b : ℕ) where
   abbrev here : ℕ
-  here = get_or keep (first + b) 0
+  here = get_or keep b 0
 
-  pub joined_more : (x : ℕ) → Joined keep (minus word (2 ^ b)) first (union s (get_or keep (first + b) 0)) x → Joined keep word first s x
+  pub joined_more : (x : ℕ) → Joined keep (minus literals (2 ^ b)) (union s (get_or keep b 0)) x → Joined keep literals s x
   joined_more x m = record {
     started = within_trans s (union s here) x (within_union_left s here) m.started;
     each = λ j g. at j g (ℕ_discrete j b);
-    small = λ f h. m.small f (or_lt 10 s here h (f (first + b)));
+    small = λ f h. m.small f (or_lt 10 s here h (f b));
   }
     where
-      at : (j : ℕ) → has word j ≡ true → Dec (j ≡ b) → within (get_or keep (first + j) 0) x ≡ true
+      at : (j : ℕ) → has literals j ≡ true → Dec (j ≡ b) → within (get_or keep j 0) x ≡ true
       at j g (yes e) =
-          ap (λ (i : ℕ). within (get_or keep (first + i) 0) x) e
+          ap (λ (i : ℕ). within (get_or keep i 0) x) e
           ∙ within_trans here (union s here) x (within_union_right s here) m.started
       at j g (no n) =
-          m.each j (has_minus_power word b j ∙ and_intro (has word j) (not (eqb j b)) g (ap not (ne_eqb j b n)))
+          m.each j (has_minus_power literals b j ∙ and_intro (has literals j) (not (eqb j b)) g (ap not (ne_eqb j b n)))
 
 -- rule i: y has what it needs and what bears on its body
-module _ (t : List ℕ) (i : ℕ) (c : List ℕ) (hi lo n x y h : ℕ) (low_fits : lo < 2 ^ 64) (body_is : joined hi lo ≡ body_at t i)
-    (need_is : n ≡ need_at t i) (needs : NeedsOne t) (listed : i < rule_count t) (first : Joined c lo 0 (n / 64) x) (second : Joined c hi 64 x y)
+module _ (t : List ℕ) (i : ℕ) (c : List ℕ) (body n y h : ℕ) (body_is : body ≡ body_at t i)
+    (need_is : n ≡ need_at t i) (needs : NeedsOne t) (listed : i < rule_count t) (join : Joined c body (n / 64) y)
     (head_is : h ≡ head_at t i) where
   abbrev old : ℕ
   old = get_or c h 0
 
   need_in : within (need_at t i / 64) y ≡ true
-  need_in = ap (λ (m : ℕ). within (m / 64) y) (sym need_is) ∙ within_trans (n / 64) x y first.started second.started
+  need_in = ap (λ (m : ℕ). within (m / 64) y) (sym need_is) ∙ join.started
 
   body_in : (l : ℕ) → has (body_at t i) l ≡ true → within (get_or c l 0) y ≡ true
-  body_in l e = go (dec_lt l 64)
-    where
-      there : has (joined hi lo) l ≡ true
-      there = ap (λ (s : ℕ). has s l) body_is ∙ e
-
-      go : Dec (l < 64) → within (get_or c l 0) y ≡ true
-      go (yes q) =
-          let z : 0 + l ≡ l = omega arith in
-          within_trans (get_or c l 0) x y
-          (subst (λ (j : ℕ). within (get_or c j 0) x ≡ true) z (first.each l (sym (has_joined_low hi lo l q) ∙ there)))
-          second.started
-      go (no q) =
-          let z : 64 + (l - 64) ≡ l = omega arith in
-          subst (λ (j : ℕ). within (get_or c j 0) y ≡ true) z
-          (second.each (l - 64) (sym (has_joined_high hi lo (l - 64) low_fits) ∙ ap (has (joined hi lo)) z ∙ there))
+  body_in l e = join.each l (ap (λ (s : ℕ). has s l) body_is ∙ e)
 
   pub bears_none : union (get_or c h 0) y ≡ get_or c h 0 → Bears t i (i + 1) c c false
   bears_none e = record {
@@ -117,18 +98,7 @@ module _ (t : List ℕ) (i : ℕ) (c : List ℕ) (hi lo n x y h : ℕ) (low_fits
           let bound = needs.below i listed in
           let start : n / 64 < 2 ^ 10 = omega arith in
           subst (λ (m : ℕ). m < 2 ^ 10) (sym (ap (λ (j : ℕ). get_or (set c h (union old y)) j 0) o ∙ get_or-set_same c h (union old y) 0 inside))
-          (or_lt 10 old y (f h) (second.small f (first.small f start)))
-
--- no rule, some after others, all
-pub bears_start : (t c : List ℕ) → Bears t 0 0 c c false
-bears_start t c = record {
-  sized = refl;
-  small = λ f. f;
-  lower = omega arith;
-  fell = λ z. absurd (false≢true z);
-  same = λ z. refl;
-  borne = λ z i a l. absurd (omega arith);
-}
+          (or_lt 10 old y (f h) (join.small f start))
 
 module _ {t : List ℕ} {a b e : ℕ} {c d f : List ℕ} {g h : Bool} (first : Bears t a b c d g) (second : Bears t b e d f h) where
   pub bears_then : Bears t a e c f (g || h)
@@ -158,19 +128,3 @@ module _ {t : List ℕ} {a b e : ℕ} {c d f : List ℕ} {g h : Bool} (first : B
 
 pub bears_whole : (t : List ℕ) (i : ℕ) → i ≡ rule_count t → {c d : List ℕ} {g : Bool} → Bears t 0 i c d g → Bears t 0 (rule_count t) c d g
 bears_whole t i e {c} {d} {g} passed = subst (λ (n : ℕ). Bears t 0 n c d g) e passed
-
-pub bears_all : (t c d : List ℕ) (grown : Bool) → Bears t 0 (rule_count t) c d grown → grown ≡ false → Bearing t d
-bears_all t c d grown passed e =
-    subst (Bearing t) (sym (passed.same e)) (record {
-      need = λ i l. (passed.borne e i (omega arith) l).need;
-      body = λ i k l g. (passed.borne e i (omega arith) l).body k g;
-    })
-
-pub small_empty : (c : List ℕ) → ((l : ℕ) → get_or c l 0 ≡ 0) → Small c
-small_empty c e l = subst (λ (n : ℕ). n < 2 ^ 10) (sym (e l)) (omega arith)
-
-pub bears_falls : (t : List ℕ) (a e : ℕ) (c d : List ℕ) (before after : Bool) → Bears t a e c d after → before ≡ true
-    → slack d + choose {A = ℕ} after 1 0 < slack c + choose {A = ℕ} before 1 0
-bears_falls t a e c d true true passed z = let h = passed.fell refl in omega arith
-bears_falls t a e c d true false passed z = let h = passed.lower in omega arith
-bears_falls t a e c d false after passed z = absurd (false≢true z)

@@ -1,5 +1,5 @@
 -- What the steps of the code do to the words of a plan.
-use Rattle.std.specs.Prelude.{◌≡◌, Bool, true, false, List, ℕ, ◌+◌, ◌*◌, ◌/◌, ◌^◌, ◌<◌, ◌≤◌, length, get_or}
+use Rattle.std.specs.Prelude.{◌≡◌, Bool, true, false, List, ℕ, ◌+◌, ◌/◌, ◌^◌, ◌<◌, ◌≤◌, length, get_or}
 use Rattle.literals.specs.Sets.{has, within}
 use Rattle.program.specs.Inside.Table.{head_at, body_at, need_at}
 use Rattle.rows.specs.Steps.{slack}
@@ -8,10 +8,10 @@ use Rattle.rows.specs.Steps.{slack}
 abbrev pub Small : List ℕ → Type 0
 Small keep = (l : ℕ) → get_or keep l 0 < 2 ^ 10
 
--- x has s and all that is kept for each literal first + b, b a member of word
-pub record Joined (keep : List ℕ) (word first s x : ℕ) : Type 0 where
+-- x has s and all that is kept for each literal of a set
+pub record Joined (keep : List ℕ) (literals s x : ℕ) : Type 0 where
   pub started : within s x ≡ true
-  pub each : (b : ℕ) → has word b ≡ true → within (get_or keep (first + b) 0) x ≡ true
+  pub each : (l : ℕ) → has literals l ≡ true → within (get_or keep l 0) x ≡ true
   pub small : Small keep → s < 2 ^ 10 → x < 2 ^ 10
 
 -- what rule i needs bears on its head, and so does what bears on its body
@@ -34,11 +34,3 @@ pub record PlacedIn (keep base : List ℕ) (s a n : ℕ) : Type 0 where
   pub ends : (l : ℕ) → has s l ≡ true → get_or base l 0 + get_or keep l 0 < n
   pub apart : (l h i j : ℕ) → has s l ≡ true → has s h ≡ true → i ≤ get_or keep l 0 → j ≤ get_or keep h 0
       → get_or base l 0 + i ≡ get_or base h 0 + j → l ≡ h
-
--- to the rows of any s, which end before m, those of the literals first + b come, b a member of word; they end before n
-pub record PlacedWord (keep : List ℕ) (word first m : ℕ) (c d : List ℕ) (n : ℕ) : Type 0 where
-  pub sized : length d ≡ length c
-  pub from : m ≤ n
-  pub low : n ≤ 1024 * (first + 65)
-  pub more : (s a : ℕ) → a ≤ m → PlacedIn keep c s a m
-      → (u : ℕ) × PlacedIn keep d u a n × (within s u ≡ true) × ((b : ℕ) → has word b ≡ true → has u (first + b) ≡ true)

@@ -6,9 +6,9 @@ ghost use Rattle.program.specs.Inside.Table.{rule_count, Shaped};
 ghost use Rattle.literals.specs.Inside.Words.{set_of};
 ghost use Rattle.rows.specs.Switched.{NeedsOne};
 ghost use Rattle.rows.specs.Layout.{Bearing};
-ghost use Rattle.plans.specs.Steps.{Small, Joined, Bears, PlacedIn, PlacedWord};
+ghost use Rattle.plans.specs.Steps.{Small, Joined, Bears, PlacedIn};
 
-use literals::{LiteralSet, masks};
+use literals::LiteralSet;
 use program::RuleTable;
 
 // What each row keeps: rounds over the rules until one adds nothing.
@@ -21,10 +21,7 @@ pub fn bearing(table: &RuleTable, keep: &mut [u64])
     ensures bearing { Bearing table.now keep.new }
 {
     rows::clear(keep);
-    let mut grown = true;
-    while grown {
-        grown = round(table, keep);
-    }
+    while round(table, keep) {}
 }
 
 // Where the row of each literal of a set begins: one after the other, from word `start` on. Where they end.
@@ -35,24 +32,11 @@ pub fn place(keep: &[u64], literals: LiteralSet, start: u64, base: &mut [u64]) -
     ensures placed_in { PlacedIn keep.now base.new (set_of literals) start result }
     ensures literals_bound { set_of literals < 2 ^ 128 }
 {
-    let low = place_word(keep, literals.lo, 0, start, base);
-    place_word(keep, literals.hi, 64, low, base)
-}
-
-// The rows of the literals of a word, the first of which is literal `first`, behind the first `start` words.
-fn place_word(keep: &[u64], word: u64, first: u64, start: u64, base: &mut [u64]) -> u64
-    requires keep_len { (length keep.now ≡ 128) × (Small keep.now) }
-    requires base_len { length base.old ≡ 128 }
-    requires first_bound { (first ≤ 64) × (start ≤ 1024 * (first + 1)) }
-    ensures { PlacedWord keep.now word first start base.old base.new result }
-{
     let mut n = start;
-    let mut left = word;
-    while left != 0 {
-        let l = (first + masks::lowest(left)) as usize;
+    for literal in literals {
+        let l = literal as usize;
         base[l] = n;
         n = n + keep[l] + 1;
-        left = masks::rest(left);
     }
     n
 }
@@ -66,10 +50,8 @@ fn round(table: &RuleTable, keep: &mut [u64]) -> bool
 {
     let rules = program::rule_count(table);
     let mut grown = false;
-    let mut i: u64 = 0;
-    while i < rules {
+    for i in 0..rules {
         grown = grown | bear(table, i, keep);
-        i += 1;
     }
     grown
 }
@@ -83,8 +65,7 @@ fn bear(table: &RuleTable, i: u64, keep: &mut [u64]) -> bool
     ensures { Bears table.now i (i + 1) keep.old keep.new result }
 {
     let body = program::body(table, i);
-    let low = join(keep, body.lo, 0, program::need(table, i) / 64);
-    let all = join(keep, body.hi, 64, low);
+    let all = join(keep, body, program::need(table, i) / 64);
     let head = program::head(table, i) as usize;
     let old = keep[head];
     let new = old | all;
@@ -95,18 +76,14 @@ fn bear(table: &RuleTable, i: u64, keep: &mut [u64]) -> bool
     true
 }
 
-// The start with all that is kept for the literals of a word, the first of which is literal `first`.
-fn join(keep: &[u64], word: u64, first: u64, start: u64) -> u64
-    requires keep_len { length keep.now ≡ 128 }
-    requires first_bound { first ≤ 64 }
-    ensures { Joined keep.now word first start result }
+// The start with all that is kept for the literals of a set.
+fn join(keep: &[u64], literals: LiteralSet, start: u64) -> u64
+    requires { length keep.now ≡ 128 }
+    ensures { Joined keep.now (set_of literals) start result }
 {
     let mut x = start;
-    let mut left = word;
-    while left != 0 {
-        let bit = masks::lowest(left);
-        x = x | keep[(first + bit) as usize];
-        left = masks::rest(left);
+    for literal in literals {
+        x = x | keep[literal as usize];
     }
     x
 }

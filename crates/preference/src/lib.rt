@@ -16,13 +16,10 @@ pub fn beats_some(table: &RuleTable, x: u64, z: u64) -> bool
     ensures { (p : Program) → Limits p → Holds p table.now → Mask p x
         → result ≡ beats_some p x z }
 {
-    let mut rest = x;
-    while rest != 0 {
-        let bit = masks::lowest(rest);
+    for bit in masks::bits(x) {
         if program::beaten(table, bit) & z != 0 {
             return true;
         }
-        rest = masks::clear(rest, bit);
     }
     false
 }

@@ -1,19 +1,18 @@
--- Rows to which no rule adds anything are closed, and rounds end.
+-- Rows to which no rule adds anything are closed.
 use mathlib.Core.Path.{◌≡◌, refl, sym, ap, ◌∙◌, subst}
-use mathlib.Core.Bool.{Bool, true, false, false≢true}
+use mathlib.Core.Bool.{Bool, true, false}
 use mathlib.Core.List.{List}
 use mathlib.Core.Logic.{◌⊎◌, inl}
 use Prim.Native.Nat.{ℕ, ◌+◌, ◌*◌, ◌/◌, ◌%◌, ◌<◌}
 use native.Mathlib.Omega.{arith}
 use lib.Bits.{bit_and}
 use lib.ListN.{length, get_or}
-use Rattle.lists.specs.Lists.{choose}
 use Rattle.literals.specs.Sets.{has, within}
 use Rattle.literals.proofs.Within.{within_refl, within_each, within_trans}
 use Rattle.program.specs.Inside.Table.{head_at, need_at, rule_count}
 use Rattle.rows.specs.Switched.{ClosedIn}
 use Rattle.rows.specs.Layout.{word_of, HeadWord, Rows, Bearing}
-use Rattle.rows.specs.Steps.{Idle, slack, Sound, Rounds}
+use Rattle.rows.specs.Steps.{Idle, Sound, Rounds}
 use Rattle.rows.proofs.Firings.{changed_then}
 use Rattle.rows.proofs.Patterns.{need_cut}
 use Rattle.rows.proofs.Views.{view_cut, cut_within}
@@ -73,14 +72,8 @@ module _ (t keep base c d : List ℕ) (bearing : Bearing t keep) (grown : Grown 
         grown.sound bearing (m / 64) (m % 64) (omega arith) s (subst (λ (n : ℕ). ClosedIn t n s) (sym (whole m)) closed) start l q e;
   }
 
--- a round in which no row changed that had been read ends it, and rounds end
+-- after a round in which no row changed that had been read
 pub round_fills : {t keep base : List ℕ} {seen : ℕ} {c d f : List ℕ} {late : Bool} → Bearing t keep → Grown t keep base c d
     → Rounds t keep base (rule_count t) seen d f late → late ≡ false → Rows t keep base c f
 round_fills {t} {keep} {base} {seen} {c} {d} {f} {late} bearing grown round e =
     rows_are t keep base c f bearing (grown_more grown round) (λ i v l inside q. round.settled e i v l inside q)
-
-pub round_falls : (t keep base : List ℕ) (n seen : ℕ) (c d : List ℕ) (before after : Bool) → Rounds t keep base n seen c d after
-    → before ≡ true → slack d + choose {A = ℕ} after 1 0 < slack c + choose {A = ℕ} before 1 0
-round_falls t keep base n seen c d true true round z = let h = round.fell refl in omega arith
-round_falls t keep base n seen c d true false round z = let h = round.lower in omega arith
-round_falls t keep base n seen c d false after round z = absurd (false≢true z)

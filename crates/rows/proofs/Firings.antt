@@ -3,16 +3,15 @@ use mathlib.Core.Path.{◌≡◌, refl, sym, ap, ◌∙◌, subst}
 use mathlib.Core.Bool.{Bool, true, false, ◌&&◌, ◌||◌, false≢true}
 use mathlib.Core.List.{List}
 use mathlib.Core.Logic.{◌⊎◌, inl, inr, ⊎_elim}
-use Prim.Native.Nat.{ℕ, ◌+◌, ◌-◌, ◌*◌, ◌/◌, ◌^◌, ◌<◌, ◌≤◌}
+use Prim.Native.Nat.{ℕ, ◌+◌, ◌*◌, ◌/◌, ◌^◌, ◌<◌, ◌≤◌}
 use native.Mathlib.Nat.{le_trans, lt_of_lt_of_le, lt_of_le_of_lt}
-use native.Mathlib.Decide.{ℕ_discrete}
+use native.Mathlib.Decide.{ℕ_discrete, dec_lt}
 use native.Mathlib.Omega.{arith}
 use lib.Bits.{bit_and, and_le_r}
 use lib.ListN.{length, get_or, set, length-set}
 use lib.Seq.{get_or-set_same, get_or-set_other}
 use borrow.Author.Tests.{eqb-true}
 use Rattle.literals.specs.Sets.{has, union, within}
-use Rattle.literals.specs.Inside.Words.{joined}
 use Rattle.literals.proofs.Tests.{and_left, or_right, or_cases, not_true_false}
 use Rattle.literals.proofs.Members.{has_union}
 use Rattle.literals.proofs.Within.{within_each, within_refl, within_trans, within_le, within_union_left, within_union_right}
@@ -21,10 +20,10 @@ use Rattle.rows.specs.Switched.{Named, ClosedIn}
 use Rattle.rows.specs.Layout.{word_of, HeadWord, Placed, Bearing}
 use Rattle.rows.specs.Steps.{Met, BodyAt, Ready, Idle, SoundAt, Readable, Decoded, Fires, OneWord, Above, Rounds}
 use Rattle.rows.proofs.Patterns.{need_word, mask_more}
-use Rattle.rows.proofs.Meets.{in_words, ready_met}
+use Rattle.rows.specs.Span.{Greatest}
+use Rattle.rows.proofs.Meets.{ready_met}
 use Rattle.rows.proofs.Words.{slack_set, union_more}
 use Rattle.rows.proofs.Views.{view_cut, cut_within_left}
-use Rattle.rows.proofs.Submasks.{next_submask}
 
 -- the literals of rule j's body are not h
 apart_body : (t : List ℕ) (j h l : ℕ) → has (body_at t j) h ≡ false → has (body_at t j) l ≡ true → l ≡ h → ⊥
@@ -188,33 +187,32 @@ word_skip t keep base i w c e = record {
 }
 
 -- one word, of a rule taken apart
-module _ (t keep base : List ℕ) (i w : ℕ) (c : List ℕ) (hi lo low must to : ℕ) (decoded : Decoded t base i (joined hi lo) low must to)
-    (low_fits : lo < 2 ^ 64) (placed : Placed t keep base (length c)) where
-  pub apart_reads : Readable keep base (length c) lo 0 × Readable keep base (length c) hi 64
-  apart_reads =
-      in_words t i w (λ x. x) hi lo low_fits decoded.body_is
-      (λ l. (l < 128) × (get_or base l 0 + get_or keep l 0 < length c))
-      (λ l d. (placed.small l (i, decoded.listed, inl d), placed.inside l (i, decoded.listed, inl d)))
+module _ (t keep base : List ℕ) (i w : ℕ) (c : List ℕ) (body low must to : ℕ) (decoded : Decoded t base i body low must to)
+    (placed : Placed t keep base (length c)) where
+  pub apart_reads : Readable keep base (length c) body
+  apart_reads l e =
+      let d : has (body_at t i) l ≡ true = ap (λ (x : ℕ). has x l) (sym decoded.body_is) ∙ e in
+      (placed.small l (i, decoded.listed, inl d), placed.inside l (i, decoded.listed, inl d))
 
-  module _ (x y : ℕ) (kept : within w (get_or keep (head_at t i) 0) ≡ true) (needed : within must w ≡ true)
-      (first : Met (word_of keep base c w) lo 0 low x) (second : Met (word_of keep base c w) hi 64 x y) where
-    is_ready : Ready t i w (word_of keep base c w) y
+  module _ (x : ℕ) (kept : within w (get_or keep (head_at t i) 0) ≡ true) (needed : within must w ≡ true)
+      (met : Met (word_of keep base c w) body low x) where
+    is_ready : Ready t i w (word_of keep base c w) x
     is_ready =
-        ready_met t i w (word_of keep base c w) hi lo low_fits decoded.body_is low x y decoded.low_is
-        (ap (λ (m : ℕ). within m w) (sym decoded.must_is) ∙ needed) first second
+        ready_met t i w (word_of keep base c w) body decoded.body_is low x decoded.low_is
+        (ap (λ (m : ℕ). within m w) (sym decoded.must_is) ∙ needed) met
 
-    pub apart_none : union (get_or c (to + w) 0) y ≡ get_or c (to + w) 0 → Fires t keep base i (OneWord w) c c false
+    pub apart_none : union (get_or c (to + w) 0) x ≡ get_or c (to + w) 0 → Fires t keep base i (OneWord w) c c false
     apart_none e =
-        word_none t keep base i w c y placed is_ready decoded.listed kept
-        (subst (λ (b : ℕ). union (get_or c (b + w) 0) y ≡ get_or c (b + w) 0) decoded.to_is e)
+        word_none t keep base i w c x placed is_ready decoded.listed kept
+        (subst (λ (b : ℕ). union (get_or c (b + w) 0) x ≡ get_or c (b + w) 0) decoded.to_is e)
 
-    pub apart_more : (union (get_or c (to + w) 0) y ≡ get_or c (to + w) 0 → ⊥) → union (get_or c (to + w) 0) y < 2 ^ 64
-        → Fires t keep base i (OneWord w) c (set c (to + w) (union (get_or c (to + w) 0) y)) true
+    pub apart_more : (union (get_or c (to + w) 0) x ≡ get_or c (to + w) 0 → ⊥) → union (get_or c (to + w) 0) x < 2 ^ 64
+        → Fires t keep base i (OneWord w) c (set c (to + w) (union (get_or c (to + w) 0) x)) true
     apart_more =
         subst
-        (λ (b : ℕ). (union (get_or c (b + w) 0) y ≡ get_or c (b + w) 0 → ⊥) → union (get_or c (b + w) 0) y < 2 ^ 64
-        → Fires t keep base i (OneWord w) c (set c (b + w) (union (get_or c (b + w) 0) y)) true) (sym decoded.to_is) (λ n fits.
-        word_more t keep base i w c y placed is_ready decoded.listed kept n fits)
+        (λ (b : ℕ). (union (get_or c (b + w) 0) x ≡ get_or c (b + w) 0 → ⊥) → union (get_or c (b + w) 0) x < 2 ^ 64
+        → Fires t keep base i (OneWord w) c (set c (b + w) (union (get_or c (b + w) 0) x)) true) (sym decoded.to_is) (λ n fits.
+        word_more t keep base i w c x placed is_ready decoded.listed kept n fits)
 
 pub apart_inside : (t keep base : List ℕ) (i w n body low must to : ℕ) → Decoded t base i body low must to → Placed t keep base n
     → within w (get_or keep (head_at t i) 0) ≡ true → to + w < n
@@ -278,45 +276,19 @@ module _ {t keep base : List ℕ} {i : ℕ} {A B : ℕ → Type 0} (Words : ℕ 
           idle_kept t keep base d f (head_at t i) second.others second.more i v inside z
           (first.settled (inr z) inside v a)
 
-pub fires_fewer : {t keep base : List ℕ} {i : ℕ} {A B : ℕ → Type 0} {c d : List ℕ} {g : Bool} → ((w : ℕ) → B w → A w)
-    → Fires t keep base i A c d g → Fires t keep base i B c d g
-fires_fewer f fired = record {
-  sized = fired.sized;
-  sound = fired.sound;
-  lower = fired.lower;
-  fell = fired.fell;
-  same = fired.same;
-  others = fired.others;
-  more = fired.more;
-  changed = fired.changed;
-  settled = λ z inside v b. fired.settled z inside v (f v b);
-}
-
--- one word more of rule i: none is left out between w and the next
-abbrev pub Beyond : List ℕ → List ℕ → ℕ → ℕ → ℕ → Type 0
-Beyond t keep i w v = (within v (get_or keep (head_at t i) 0) ≡ true) × (w < v)
-
-pub above_cases : (t keep : List ℕ) (i w v : ℕ) → Above t keep i w v → Beyond t keep i w v ⊎ OneWord w v
-above_cases t keep i w v (q, l) = go (ℕ_discrete v w)
+-- the words from e on, and w, the next below them
+pub above_cases : (t keep : List ℕ) (i e w v : ℕ) → Greatest (get_or keep (head_at t i) 0) e w → Above t keep i w v
+    → Above t keep i e v ⊎ OneWord w v
+above_cases t keep i e w v next (q, l) = go (ℕ_discrete v w) (dec_lt v e)
   where
-    go : Dec (v ≡ w) → Beyond t keep i w v ⊎ OneWord w v
-    go (yes z) = inr z
-    go (no z) = inl (q, omega arith)
-
-pub beyond_next : (t keep : List ℕ) (i w v f : ℕ) → f ≡ get_or keep (head_at t i) 0 → within w f ≡ true
-    → Beyond t keep i (bit_and (w - 1) f) v → Above t keep i w v
-beyond_next t keep i w v f e kept (q, l) = (q, next_submask w f v kept (ap (within v) e ∙ q) l)
+    go : Dec (v ≡ w) → Dec (v < e) → Above t keep i e v ⊎ OneWord w v
+    go (yes z) d = inr z
+    go (no z) (yes d) = absurd (omega (arith, next.greatest v q d))
+    go (no z) (no d) = inl (q, omega arith)
 
 -- above all that is kept there is nothing
-pub none_beyond : (t keep : List ℕ) (i h v : ℕ) → h ≡ head_at t i → Beyond t keep i (get_or keep h 0) v → ⊥
-none_beyond t keep i h v e (q, l) =
-    let same : get_or keep h 0 ≡ get_or keep (head_at t i) 0 = ap (λ (n : ℕ). get_or keep n 0) e in
-    let below = within_le v (get_or keep (head_at t i) 0) q in
-    omega arith
-
-pub fires_zero : (w : ℕ) → w ≡ 0 → {t keep base : List ℕ} {i : ℕ} {c d : List ℕ} {g : Bool}
-    → Fires t keep base i (Above t keep i w) c d g → Fires t keep base i (Above t keep i 0) c d g
-fires_zero w e {t} {keep} {base} {i} {c} {d} {g} fired = subst (λ (n : ℕ). Fires t keep base i (Above t keep i n) c d g) e fired
+pub none_above : (t keep : List ℕ) (i v : ℕ) → Above t keep i (get_or keep (head_at t i) 0 + 1) v → ⊥
+none_above t keep i v (q, l) = omega (arith, within_le v (get_or keep (head_at t i) 0) q)
 
 -- ---- a round
 pub rounds_none : (t keep base : List ℕ) (seen : ℕ) (c : List ℕ) → Rounds t keep base 0 seen c c false

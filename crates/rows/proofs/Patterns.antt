@@ -2,22 +2,25 @@
 use mathlib.Core.Path.{◌≡◌, refl, sym, ap, ◌∙◌, subst}
 use mathlib.Core.Bool.{Bool, true, false, not, ◌&&◌, false≢true}
 use mathlib.Core.Logic.{⊎_elim}
-use Prim.Native.Nat.{ℕ, zero, suc, ◌+◌, ◌-◌, ◌*◌, ◌/◌, ◌%◌, ◌^◌, ◌<◌, ◌≤◌}
+use Prim.Native.Nat.{ℕ, zero, suc, ◌+◌, ◌-◌, ◌*◌, ◌/◌, ◌%◌, ◌^◌, ◌<◌}
 use native.Mathlib.Nat.{eq-or-lt_of_le}
 use native.Mathlib.Decide.{dec_lt}
 use native.Mathlib.Omega.{arith}
 use lib.Bits.{bit_and}
 use lib.Dec.{eqb}
-use lib.Pow.{pow-add}
+use lib.ListN.{get_or}
+use lib.Pow.{pow-add, pow-lt, pow_pos}
+use borrow.Author.Tests.{eqb-true}
 use Rattle.literals.specs.Sets.{bit, has, within}
 use Rattle.literals.proofs.Tests.{and_intro, and_left, and_right}
 use Rattle.literals.proofs.Bits.{bit_low, bit_high}
-use Rattle.literals.proofs.Members.{has_and}
+use Rattle.literals.proofs.Members.{has_and, has_power}
 use Rattle.literals.proofs.Within.{within_each, each_within, within_empty}
 use Rattle.program.specs.Program.{Kind, strict, defeasible}
 use Rattle.program.specs.Inside.Table.{need_of}
 use Rattle.derivation.proofs.Tables.{need_chosen}
 use Rattle.rows.specs.Steps.{LowWord}
+use Rattle.rows.specs.declared.TheConstants.{PLACES}
 
 -- the first n digits of x are those that f says
 alike : Bool → Bool → Bool
@@ -31,12 +34,12 @@ alike_same true false e = absurd (false≢true e)
 alike_same false true e = absurd (false≢true e)
 alike_same false false e = refl
 
-unfoldable pub agree : ℕ → (ℕ → Bool) → ℕ → Bool
+unfoldable agree : ℕ → (ℕ → Bool) → ℕ → Bool
 unfolding alike has
 agree x f zero = true
 agree x f (suc n) = alike (has x n) (f n) && agree x f n
 
-pub agree_at : (x : ℕ) (f : ℕ → Bool) (n k : ℕ) → agree x f n ≡ true → k < n → has x k ≡ f k
+agree_at : (x : ℕ) (f : ℕ → Bool) (n k : ℕ) → agree x f n ≡ true → k < n → has x k ≡ f k
 unfolding agree
 agree_at x f zero k e h = absurd (omega arith)
 agree_at x f (suc n) k e h =
@@ -57,57 +60,46 @@ has_block w k b h =
     let e : 64 * w + k ≡ w * 2 ^ 6 + k = omega arith in
     ap (λ (x : ℕ). eqb x 1) (ap (λ (x : ℕ). bit x (6 + b)) e ∙ bit_high w k 6 b h)
 
--- a need of one of the six lowest bits
-pub chooses_place : (j x need : ℕ) → j < 6 → agree x (λ k. has k j) 64 ≡ true → need ≡ 2 ^ j → (kind : Kind) (b : ℕ) → need ≡ need_of kind b → LowWord need x
-chooses_place j x need h a e kind b f w k t l =
-    agree_at x (λ i. has i j) 64 k a l ∙ sym (has_place w k j h) ∙ sym (need_chosen defeasible j (64 * w + k))
-    ∙ ap (λ (n : ℕ). within n (64 * w + k)) (sym e)
-
-pub ones_place : agree 12297829382473034410 (λ k. has k 0) 64 ≡ true
+-- the places with one of the six lowest bits
+agree_places : (b : ℕ) → b < 6 → agree (get_or PLACES b 0) (λ k. has k b) 64 ≡ true
 unfolding agree has bit alike
-ones_place = refl
+agree_places zero h = refl
+agree_places (suc zero) h = refl
+agree_places (suc (suc zero)) h = refl
+agree_places (suc (suc (suc zero))) h = refl
+agree_places (suc (suc (suc (suc zero)))) h = refl
+agree_places (suc (suc (suc (suc (suc zero))))) h = refl
+agree_places (suc (suc (suc (suc (suc (suc b)))))) h = absurd (omega arith)
 
-pub twos_place : agree 14757395258967641292 (λ k. has k 1) 64 ≡ true
-unfolding agree has bit alike
-twos_place = refl
-
-pub fours_place : agree 17361641481138401520 (λ k. has k 2) 64 ≡ true
-unfolding agree has bit alike
-fours_place = refl
-
-pub eights_place : agree 18374966859414961920 (λ k. has k 3) 64 ≡ true
-unfolding agree has bit alike
-eights_place = refl
-
-pub sixteens_place : agree 18446462603027742720 (λ k. has k 4) 64 ≡ true
-unfolding agree has bit alike
-sixteens_place = refl
-
-pub thirtytwos_place : agree 18446744069414584320 (λ k. has k 5) 64 ≡ true
-unfolding agree has bit alike
-thirtytwos_place = refl
+pub place_at : (b k : ℕ) → b < 6 → k < 64 → has (get_or PLACES b 0) k ≡ has k b
+place_at b k h l = agree_at (get_or PLACES b 0) (λ i. has i b) 64 k (agree_places b h) l
 
 all_place : agree 18446744073709551615 (λ k. true) 64 ≡ true
 unfolding agree has bit alike
 all_place = refl
 
--- a rule with none of them: strict, or with a bit of the block's number
-pub record Beyond (need : ℕ) : Type 0 where
-  pub one : need ≡ 1 → ⊥
-  pub two : need ≡ 2 → ⊥
-  pub four : need ≡ 4 → ⊥
-  pub eight : need ≡ 8 → ⊥
-  pub sixteen : need ≡ 16 → ⊥
-  pub thirtytwo : need ≡ 32 → ⊥
+-- a power of two, by what it has of the six lowest bits
+power_low : (b : ℕ) → b < 6 → 2 ^ b % 64 ≡ 2 ^ b
+power_low b h = let small : 2 ^ b < 2 ^ 6 = pow-lt h in omega arith
 
-beyond_bit : (need b : ℕ) → Beyond need → need ≡ 2 ^ b → 6 ≤ b
-beyond_bit need zero n e = absurd (n.one e)
-beyond_bit need (suc zero) n e = absurd (n.two e)
-beyond_bit need (suc (suc zero)) n e = absurd (n.four e)
-beyond_bit need (suc (suc (suc zero))) n e = absurd (n.eight e)
-beyond_bit need (suc (suc (suc (suc zero)))) n e = absurd (n.sixteen e)
-beyond_bit need (suc (suc (suc (suc (suc zero))))) n e = absurd (n.thirtytwo e)
-beyond_bit need (suc (suc (suc (suc (suc (suc b)))))) n e = omega arith
+power_high : (b : ℕ) → (b < 6 → ⊥) → 2 ^ b ≡ 64 * 2 ^ (b - 6)
+power_high b n =
+    let j : b ≡ 6 + (b - 6) = omega arith in
+    ap (λ (x : ℕ). 2 ^ x) j ∙ pow-add 2 6 (b - 6)
+
+-- a need of one of the six lowest bits
+pub chooses_place : (need l : ℕ) → (need % 64 ≡ 0 → ⊥) → has (need % 64) l ≡ true → (kind : Kind) (b : ℕ) → need ≡ need_of kind b
+    → LowWord need (get_or PLACES l 0)
+chooses_place need l some member strict b e w k t h = absurd (some (ap (λ (x : ℕ). x % 64) e))
+chooses_place need l some member defeasible b e w k t h = go (dec_lt b 6)
+  where
+    go : Dec (b < 6) → has (get_or PLACES l 0) k ≡ within need (64 * w + k)
+    go (yes q) =
+        let low : need % 64 ≡ 2 ^ b = ap (λ (x : ℕ). x % 64) e ∙ power_low b q in
+        let same : l ≡ b = eqb-true l b (sym (has_power b l) ∙ ap (λ (x : ℕ). has x l) (sym low) ∙ member) in
+        ap (λ (i : ℕ). has (get_or PLACES i 0) k) same ∙ place_at b k q h ∙ sym (has_place w k b q)
+        ∙ sym (need_chosen defeasible b (64 * w + k)) ∙ ap (λ (n : ℕ). within n (64 * w + k)) (sym e)
+    go (no n) = absurd (some (omega (arith, e, power_high b n)))
 
 -- a need above the lowest six bits
 high : (need b : ℕ) → has need (6 + b) ≡ has (need / 64) b
@@ -115,19 +107,22 @@ high need b =
     let e : 64 * (need / 64) + need % 64 ≡ need = omega arith in
     ap (λ (x : ℕ). has x (6 + b)) (sym e) ∙ has_block (need / 64) (need % 64) b (omega arith)
 
-pub chooses_all : (need : ℕ) → Beyond need → (kind : Kind) (b : ℕ) → need ≡ need_of kind b → LowWord need 18446744073709551615
-chooses_all need n strict b e w k t h =
+-- a need of none of them: strict, or of a bit of the block's number
+pub chooses_all : (need : ℕ) → need % 64 ≡ 0 → (kind : Kind) (b : ℕ) → need ≡ need_of kind b → LowWord need 18446744073709551615
+chooses_all need none strict b e w k t h =
     agree_at 18446744073709551615 (λ i. true) 64 k all_place h ∙ sym (ap (λ (x : ℕ). within x (64 * w + k)) e ∙ within_empty (64 * w + k))
-chooses_all need n defeasible b e w k t h =
-    let j : b ≡ 6 + (b - 6) = omega (arith, beyond_bit need b n e) in
-    let power : 2 ^ (6 + (b - 6)) ≡ 2 ^ 6 * 2 ^ (b - 6) = pow-add 2 6 (b - 6) in
-    let need_is : need ≡ 2 ^ (6 + (b - 6)) = e ∙ ap (λ (x : ℕ). 2 ^ x) j in
-    let above : need / 64 ≡ 2 ^ (b - 6) = omega arith in
-    let there : has w (b - 6) ≡ true = sym (need_chosen defeasible (b - 6) w) ∙ ap (λ (x : ℕ). within x w) (sym above) ∙ t in
-    agree_at 18446744073709551615 (λ i. true) 64 k all_place h
-    ∙ sym
-    (ap (λ (x : ℕ). within x (64 * w + k)) e ∙ need_chosen defeasible b (64 * w + k) ∙ ap (has (64 * w + k)) j
-    ∙ has_block w k (b - 6) h ∙ there)
+chooses_all need none defeasible b e w k t h = go (dec_lt b 6)
+  where
+    go : Dec (b < 6) → has 18446744073709551615 k ≡ within need (64 * w + k)
+    go (yes q) = absurd (omega (arith, e, power_low b q, pow_pos b))
+    go (no n) =
+        let j : b ≡ 6 + (b - 6) = omega arith in
+        let above : need / 64 ≡ 2 ^ (b - 6) = omega (arith, e, power_high b n) in
+        let there : has w (b - 6) ≡ true = sym (need_chosen defeasible (b - 6) w) ∙ ap (λ (x : ℕ). within x w) (sym above) ∙ t in
+        agree_at 18446744073709551615 (λ i. true) 64 k all_place h
+        ∙ sym
+        (ap (λ (x : ℕ). within x (64 * w + k)) e ∙ need_chosen defeasible b (64 * w + k) ∙ ap (has (64 * w + k)) j
+        ∙ has_block w k (b - 6) h ∙ there)
 
 -- where the need is within a mask, what it has above the lowest six bits is within the mask's word number
 pub need_word : (need w k : ℕ) → k < 64 → within need (64 * w + k) ≡ true → within (need / 64) w ≡ true

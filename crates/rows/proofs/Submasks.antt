@@ -1,14 +1,16 @@
--- The sets within a set f, in descending order: after i comes (i - 1) & f.
+-- The words within a span, in descending order.
 use mathlib.Core.Path.{◌≡◌, ap, ◌∙◌}
 use mathlib.Core.Bool.{true}
 use mathlib.Core.Logic.{⊎_elim}
-use Prim.Native.Nat.{ℕ, ◌-◌, ◌/◌, ◌%◌, ◌<◌, ◌≤◌}
-use native.Mathlib.Decide.{dec_lt}
+use Prim.Native.Nat.{ℕ, ◌+◌, ◌-◌, ◌/◌, ◌%◌, ◌<◌, ◌≤◌}
 use native.Mathlib.Omega.{arith}
 use lib.Arith.{bin_ind}
-use lib.Bits.{bit_and, and_step}
+use lib.Bits.{bit_and, and_step, and_le_l}
 use borrow.Author.Tests.{eqb-true}
 use Rattle.literals.specs.Sets.{within}
+use Rattle.literals.proofs.Within.{within_le, within_refl}
+use Rattle.rows.specs.Span.{Bounds, Greatest}
+use Rattle.rows.proofs.Views.{cut_within}
 use Rattle.literals.proofs.Bits.{digit_cases}
 
 -- within, by halves
@@ -39,10 +41,20 @@ submask_below =
         let low : v % 2 ≤ f % 2 = g.1 in
         omega (arith, and_step (i - 1) f)
 
--- none is left out between i and the next
-pub next_submask : (i f v : ℕ) → within i f ≡ true → within v f ≡ true → bit_and (i - 1) f < v → i ≤ v
-next_submask i f v p q l = go (dec_lt v i)
-  where
-    go : Dec (v < i) → i ≤ v
-    go (yes h) = absurd (omega (arith, submask_below i f v (eqb-true (bit_and i f) i p) (eqb-true (bit_and v f) v q) h))
-    go (no h) = omega arith
+-- none is left out before the first
+pub bounds_all : (span : ℕ) → Bounds span (span + 1)
+bounds_all span v q l =
+    let last : span + 1 - 1 ≡ span = omega arith in
+    let whole : bit_and (span + 1 - 1) span ≡ span = ap (λ (x : ℕ). bit_and x span) last ∙ eqb-true (bit_and span span) span (within_refl span) in
+    omega (arith, within_le v span q)
+
+-- nor behind a word
+pub bounds_next : (span w : ℕ) → within w span ≡ true → Bounds span w
+bounds_next span w p v q = submask_below w span v (eqb-true (bit_and w span) w p) (eqb-true (bit_and v span) v q)
+
+pub next_greatest : (span e : ℕ) → Bounds span e → (e ≡ 0 → ⊥) → Greatest span e (bit_and (e - 1) span)
+next_greatest span e bounds some = record {
+  inside = cut_within (e - 1) span;
+  below = omega (arith, and_le_l (e - 1) span);
+  greatest = bounds;
+}

@@ -9,11 +9,11 @@ use Rattle.rows.specs.Layout.{word_of, HeadWord, Bearing}
 abbrev pub LowWord : ℕ → ℕ → Type 0
 LowWord need x = (w k : ℕ) → within (need / 64) w ≡ true → k < 64 → has x k ≡ within need (64 * w + k)
 
--- x has the masks of s for which f has each literal first + b, b a member of word
-pub record Met (f : ℕ → ℕ) (word first s x : ℕ) : Type 0 where
+-- x has the masks of s for which f has each literal of a set
+pub record Met (f : ℕ → ℕ) (literals s x : ℕ) : Type 0 where
   pub started : (k : ℕ) → has x k ≡ true → has s k ≡ true
-  pub each : (k : ℕ) → has x k ≡ true → (b : ℕ) → has word b ≡ true → has (f (first + b)) k ≡ true
-  pub passes : (k : ℕ) → has s k ≡ true → ((b : ℕ) → has word b ≡ true → has (f (first + b)) k ≡ true) → has x k ≡ true
+  pub each : (k : ℕ) → has x k ≡ true → (l : ℕ) → has literals l ≡ true → has (f l) k ≡ true
+  pub passes : (k : ℕ) → has s k ≡ true → ((l : ℕ) → has literals l ≡ true → has (f l) k ≡ true) → has x k ≡ true
 
 -- f, the words of the masks from 64 w on, has the body of rule i for the mask with place k
 abbrev pub BodyAt : List ℕ → ℕ → (ℕ → ℕ) → ℕ → Type 0
@@ -43,10 +43,9 @@ abbrev pub Sound : List ℕ → List ℕ → List ℕ → List ℕ → List ℕ 
 Sound t keep base c d = Bearing t keep → (w k : ℕ) → k < 64 → (s : ℕ → Bool) → ClosedIn t (64 * w + k) s
     → SoundAt t keep base c w k s → SoundAt t keep base d w k s
 
--- the literals of a word, the first of which is literal first, have places in n words
-abbrev pub Readable : List ℕ → List ℕ → ℕ → ℕ → ℕ → Type 0
-Readable keep base n word first = (b : ℕ) → has word b ≡ true
-    → (first + b < 128) × (get_or base (first + b) 0 + get_or keep (first + b) 0 < n)
+-- the literals of a set have places in n words
+abbrev pub Readable : List ℕ → List ℕ → ℕ → ℕ → Type 0
+Readable keep base n literals = (l : ℕ) → has literals l ≡ true → (l < 128) × (get_or base l 0 + get_or keep l 0 < n)
 
 -- rule i taken apart: its body as a set, the pattern and the word bits of its need, and where its head's row begins
 pub record Decoded (t base : List ℕ) (i body low must to : ℕ) : Type 0 where

@@ -15,6 +15,18 @@ ghost use Rattle.rows.specs.Steps.{LowWord, Met, Readable, Decoded, Fires, OneWo
 use literals::{LiteralSet, masks};
 use program::RuleTable;
 
+pub mod span;
+
+// For each of the six lowest bits of a mask the places with that bit among the 64 of a word.
+pub const PLACES: [u64; 6] = [
+    0xAAAA_AAAA_AAAA_AAAA,
+    0xCCCC_CCCC_CCCC_CCCC,
+    0xF0F0_F0F0_F0F0_F0F0,
+    0xFF00_FF00_FF00_FF00,
+    0xFFFF_0000_FFFF_0000,
+    0xFFFF_FFFF_0000_0000,
+];
+
 // Fills the rows, from what they have: rounds over the rules, the last of which changes no row that a rule has read by then.
 pub fn fill(table: &RuleTable, keep: &[u64], base: &[u64], rows: &mut [u64])
     requires shaped { Shaped table.now }
@@ -24,10 +36,7 @@ pub fn fill(table: &RuleTable, keep: &[u64], base: &[u64], rows: &mut [u64])
     ensures rows_len_unchanged { length rows.new ≡ length rows.old }
     ensures rows { Rows table.now keep.now base.now rows.old rows.new }
 {
-    let mut late = true;
-    while late {
-        late = round(table, keep, base, rows);
-    }
+    while round(table, keep, base, rows) {}
 }
 
 // Nothing is derived yet.
@@ -35,11 +44,7 @@ pub fn clear(words: &mut [u64])
     ensures words_len_unchanged { length words.new ≡ length words.old }
     ensures by_index { (l : ℕ) → get_or words.new l 0 ≡ 0 }
 {
-    let mut l: usize = 0;
-    while l < words.len() {
-        words[l] = 0;
-        l += 1;
-    }
+    words.fill(0);
 }
 
 // Each rule once, in table order. A row changed that a rule had read by then.
@@ -53,11 +58,9 @@ fn round(table: &RuleTable, keep: &[u64], base: &[u64], rows: &mut [u64]) -> boo
     let rules = program::rule_count(table);
     let mut seen = LiteralSet::empty();
     let mut late = false;
-    let mut i: u64 = 0;
-    while i < rules {
+    for i in 0..rules {
         seen = seen.union(program::body(table, i));
         late = late | (fire(table, i, keep, base, rows) & seen.has(program::head(table, i)));
-        i += 1;
     }
     late
 }
@@ -78,14 +81,10 @@ fn fire(table: &RuleTable, i: u64, keep: &[u64], base: &[u64], rows: &mut [u64])
     let kept = keep[head];
     let to = base[head];
     let mut grown = false;
-    let mut w = kept;
-    loop {
+    for w in span::words(kept) {
         grown = grown | fire_word(table, i, w, body, low, must, to, keep, base, rows);
-        if w == 0 {
-            return grown;
-        }
-        w = (w - 1) & kept;
     }
+    grown
 }
 
 // Rule i for the masks from 64 w on, the rule taken apart: its body, its need, and where its head's row begins.
@@ -110,8 +109,7 @@ fn fire_word(
     if must & w != must {
         return false;
     }
-    let first = meet(keep, base, rows, w, body.lo, 0, low);
-    let ready = meet(keep, base, rows, w, body.hi, 64, first);
+    let ready = meet(keep, base, rows, w, body, low);
     let at = (to + w) as usize;
     let old = rows[at];
     let new = old | ready;
@@ -122,19 +120,16 @@ fn fire_word(
     true
 }
 
-// The masks of the start for which the rows have each literal of a word, the first of which is literal `first`.
-fn meet(keep: &[u64], base: &[u64], rows: &[u64], w: u64, word: u64, first: u64, start: u64) -> u64
+// The masks of the start for which the rows have each literal of a set.
+fn meet(keep: &[u64], base: &[u64], rows: &[u64], w: u64, literals: LiteralSet, start: u64) -> u64
     requires keep_len { (length keep.now ≡ 128) × (length base.now ≡ 128) }
-    requires readable { Readable keep.now base.now (length rows.now) word first }
-    requires first_bound { first ≤ 64 }
-    ensures { Met (word_of keep.now base.now rows.now w) word first start result }
+    requires readable { Readable keep.now base.now (length rows.now) (set_of literals) }
+    ensures { Met (word_of keep.now base.now rows.now w) (set_of literals) start result }
 {
     let mut x = start;
-    let mut left = word;
-    while left != 0 {
-        let l = (first + masks::lowest(left)) as usize;
+    for literal in literals {
+        let l = literal as usize;
         x = x & rows[(base[l] + (w & keep[l])) as usize];
-        left = masks::rest(left);
     }
     x
 }
@@ -143,23 +138,9 @@ fn meet(keep: &[u64], base: &[u64], rows: &[u64], w: u64, word: u64, first: u64,
 pub fn low_word(need: u64) -> u64
     ensures { (kind : Kind) (b : ℕ) → need ≡ need_of kind b → LowWord need result }
 {
-    if need == 1 {
-        return 0xAAAA_AAAA_AAAA_AAAA;
+    let low = need % 64;
+    if low == 0 {
+        return 0xFFFF_FFFF_FFFF_FFFF;
     }
-    if need == 2 {
-        return 0xCCCC_CCCC_CCCC_CCCC;
-    }
-    if need == 4 {
-        return 0xF0F0_F0F0_F0F0_F0F0;
-    }
-    if need == 8 {
-        return 0xFF00_FF00_FF00_FF00;
-    }
-    if need == 16 {
-        return 0xFFFF_0000_FFFF_0000;
-    }
-    if need == 32 {
-        return 0xFFFF_FFFF_0000_0000;
-    }
-    0xFFFF_FFFF_FFFF_FFFF
+    PLACES[masks::lowest(low) as usize]
 }

@@ -3,11 +3,9 @@ use Prim.Native.Nat.{ℕ}
 use mathlib.Core.Path.{◌≡◌}
 use mathlib.Core.Bool.{true}
 use Rattle.literals.specs.Sets.{within}
-use Rattle.closing.specs.Inside.Steps.{Clashed}
+use Rattle.literals.specs.Inside.Words.{set_of}
+use Rattle.closing.proofs.Clashings.{Clashed}
 use Rattle.closing.proofs.clash_word.Given as goal
 
-abbrev pub invariant-loop-left : goal.invariant-loop-left
-invariant-loop-left l = (within l.left l.word ≡ true) × ((r : ℕ) → Clashed l.rows l.left l.first l.w l.x r → Clashed l.rows l.word l.first l.w l.start r)
-
-abbrev pub decreases-loop-left : goal.decreases-loop-left
-decreases-loop-left l = l.left
+abbrev pub invariant-loop-l : goal.invariant-loop-l
+invariant-loop-l now = (within (set_of now.l-iterator.left) (set_of now.fn.pairs) ≡ true) × ((r : ℕ) → Clashed now.rows (set_of now.l-iterator.left) now.w now.x r → Clashed now.rows (set_of now.fn.pairs) now.w 0 r)

@@ -3,11 +3,10 @@ use Prim.Native.Nat.{ℕ, ◌<◌}
 use mathlib.Core.Path.{◌≡◌}
 use mathlib.Core.Bool.{true}
 use Rattle.literals.specs.Sets.{within}
+use Rattle.literals.specs.Inside.Words.{set_of}
 use Rattle.closing.proofs.Pairings.{Spanned}
 use Rattle.closing.proofs.span_of.Given as goal
 
-abbrev pub invariant-loop-left : goal.invariant-loop-left
-invariant-loop-left l = (within l.left l.word ≡ true) × (l.x < 1024) × ((r : ℕ) → Spanned l.keep l.left l.first l.x r → Spanned l.keep l.word l.first l.start r)
-
-abbrev pub decreases-loop-left : goal.decreases-loop-left
-decreases-loop-left l = l.left
+abbrev pub invariant-loop-literal : goal.invariant-loop-literal
+invariant-loop-literal l = (within (set_of l.literal-iterator.left) (set_of l.fn.pairs) ≡ true) × (l.x < 1024)
+    × ((r : ℕ) → Spanned l.keep (set_of l.literal-iterator.left) l.x r → Spanned l.keep (set_of l.fn.pairs) 0 r)

@@ -3,11 +3,11 @@ use Rattle.std.specs.Prelude.{◌≡◌, true, false, List, ℕ, ◌+◌, ◌<�
 use Rattle.literals.specs.Sets.{has, within}
 use Rattle.closures.specs.Inside.Table.{begins_at, keeps_at, word_at}
 
--- the values f of the numbers first + b, b a member of word, are put at the words from `at` on
-pub record Scattered (at word first : ℕ) (f : ℕ → ℕ) (c d : List ℕ) : Type 0 where
+-- the values f of the members of s are put at the words from `at` on
+pub record Scattered (at s : ℕ) (f : ℕ → ℕ) (c d : List ℕ) : Type 0 where
   pub sized : length d ≡ length c
-  pub hit : (b : ℕ) → has word b ≡ true → get_or d (at + (first + b)) 0 ≡ f (first + b)
-  pub miss : (i : ℕ) → ((b : ℕ) → has word b ≡ true → i ≡ at + (first + b) → ⊥) → get_or d i 0 ≡ get_or c i 0
+  pub hit : (l : ℕ) → has s l ≡ true → get_or d (at + l) 0 ≡ f l
+  pub miss : (i : ℕ) → ((l : ℕ) → has s l ≡ true → i ≡ at + l → ⊥) → get_or d i 0 ≡ get_or c i 0
 
 -- an empty word, a full one, empty ones up to the rows, and the rows as they were
 pub record Blank (c t : List ℕ) : Type 0 where
@@ -30,20 +30,14 @@ pub record Header (d s n v : ℕ) (keep base c t : List ℕ) : Type 0 where
   pub bottom_begins : begins_at t 128 ≡ n
   pub bottom_keeps : keeps_at t 128 ≡ v
 
--- at place k of the words from 64 w on, first + b and the literal after it are both set, for some member b of word
-abbrev pub ClashAt : List ℕ → (word first w k : ℕ) → Type 0
-ClashAt t word first w k = (b : ℕ) × (has word b ≡ true) × (has (word_at t (first + b) w) k ≡ true) × (has (word_at t (first + b + 1) w) k ≡ true)
-
--- x has the places of s, and those where the literals of a word clash
-pub record Clashed (t : List ℕ) (word first w s x : ℕ) : Type 0 where
-  pub started : (k : ℕ) → has s k ≡ true → has x k ≡ true
-  pub passes : (k : ℕ) → ClashAt t word first w k → has x k ≡ true
-  pub says : (k : ℕ) → has x k ≡ true → (has s k ≡ false) → ClashAt t word first w k
+-- at place k of the words from 64 w on, l and the literal after it are both set, for some member l of q
+abbrev pub ClashAt : List ℕ → (q w k : ℕ) → Type 0
+ClashAt t q w k = (l : ℕ) × (has q l ≡ true) × (has (word_at t l w) k ≡ true) × (has (word_at t (l + 1) w) k ≡ true)
 
 -- x has the masks from 64 w on under which an atom of q clashes
 pub record ClashWord (t : List ℕ) (q w x : ℕ) : Type 0 where
-  pub passes : (k l : ℕ) → has q l ≡ true → has (word_at t l w) k ≡ true → has (word_at t (l + 1) w) k ≡ true → has x k ≡ true
-  pub says : (k : ℕ) → has x k ≡ true → (l : ℕ) × (has q l ≡ true) × (has (word_at t l w) k ≡ true) × (has (word_at t (l + 1) w) k ≡ true)
+  pub passes : (k : ℕ) → ClashAt t q w k → has x k ≡ true
+  pub says : (k : ℕ) → has x k ≡ true → ClashAt t q w k
 
 -- the row from word n on, v its span, is filled with them, and what stands before it is as it was
 pub record ClashRow (q n v : ℕ) (c t : List ℕ) : Type 0 where

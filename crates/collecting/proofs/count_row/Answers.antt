@@ -1,54 +1,40 @@
-use mathlib.Core.Path.{refl, sym, ap, ◌∙◌}
-use Prim.Native.Nat.{◌-◌}
-use lib.Bits.{and_le_l}
-use Rattle.literals.specs.Sets.{within}
-use Rattle.literals.proofs.Within.{within_refl}
-use Rattle.rows.proofs.Views.{cut_within}
+use mathlib.Core.Path.{refl, ◌∙◌, subst}
+use Prim.Native.Nat.{ℕ}
+use Rattle.rows.specs.Span.{Greatest}
+use Rattle.closures.specs.Inside.Table.{keeps_at}
 use Rattle.collecting.proofs.Counts.{row_all, row_next, row_last, row_few}
 use Rattle.collecting.proofs.Marks.{row_start, row_word, row_end}
 use native.Mathlib.Omega.{arith}
 use Rattle.collecting.proofs.count_row.Goals as goal
+use Rattle.collecting.proofs.count_row.Goals.{In-Some}
 
-pub span-span-requires : goal.span-span-requires
-span-span-requires c = (c.requires.0, omega (arith, c.requires.1))
+module _ (c : In-Some) where
+  next : Greatest (keeps_at c.args.rows.now c.args.literal) c.loop-w.w-iterator.end c.in-Some.w
+  next = subst (λ (v : ℕ). Greatest v c.loop-w.w-iterator.end c.in-Some.w) (c.loop-w.invariant.span ∙ c.span-span.ensures.0) c.in-Some.ensures.steps.0
 
 pub loop-w-init : goal.loop-w-init
-loop-w-init c = let a = c.args in (
-  within_refl c.span-span.result,
-  row_all a.rows.now a.literal c.span-span.result 0 c.span-span.ensures.0 c.span-span.ensures.1 refl,
-  refl,
-  row_start a.rows.now a.literal c.span-span.result c.span-span.ensures.0 a.touched.now,
-)
-
-pub count_word-found-requires : goal.count_word-found-requires
-count_word-found-requires c = record {
-  laid = (c.requires.0, c.requires.1, c.loop-w.invariant.2 ∙ c.requires.2);
-  literal_value = ap (within c.loop-w.w) (sym c.span-span.ensures.0) ∙ c.loop-w.invariant.0;
-}
+loop-w-init c = rw (c.into_iter-w-iterator.ensures.into_iter_gives, c.words-w-items.ensures.1, c.span-span.ensures.0) (record {
+  span = c.words-w-items.ensures.0 ∙ c.span-span.ensures.0;
+  left = row_all _ _ (omega (arith, c.span-span.ensures.0, c.span-span.ensures.1));
+  sized = refl;
+  marks = row_start _ _ _;
+})
 
 pub overflow_add-found : goal.overflow_add-found
-overflow_add-found c = omega (arith, c.loop-w.invariant.1, row_few c.args.rows.now c.args.literal, c.count_word-found.ensures.value.1)
-
-pub shape_of-touched-then-w-eq0 : goal.shape_of-touched-then-w-eq0
-shape_of-touched-then-w-eq0 c = c.count_word-found.ensures.marks.sized ∙ c.loop-w.invariant.2
-
-pub returns-then-w-eq0 : goal.returns-then-w-eq0
-returns-then-w-eq0 c = let a = c.args in
-    let e = row_last a.rows.now a.literal c.loop-w.w c.loop-w.found c.count_word-found.result c.if-w-eq0.true c.loop-w.invariant.1 c.count_word-found.ensures.value.0 in record {
-      value = (e, omega (arith, e, row_few a.rows.now a.literal));
-      marks = c.loop-w.invariant.3 _ (row_end a.rows.now a.literal c.span-span.result c.span-span.ensures.0 c.loop-w.w c.if-w-eq0.true _ _ c.count_word-found.ensures.marks);
-    }
-
-pub overflow_sub-w : goal.overflow_sub-w
-overflow_sub-w c = omega (arith, c.if-w-eq0.false)
-
-pub loop-w-smaller : goal.loop-w-smaller
-loop-w-smaller c = omega (arith, and_le_l (c.loop-w.w - 1) c.span-span.result, c.if-w-eq0.false)
+overflow_add-found c = omega (arith, c.loop-w.invariant.left.rest, row_few c.args.rows.now c.args.literal, c.count_word-found.ensures.value.1)
 
 pub loop-w-preserved : goal.loop-w-preserved
-loop-w-preserved c = let a = c.args in (
-  cut_within (c.loop-w.w - 1) c.span-span.result,
-  row_next a.rows.now a.literal c.span-span.result c.loop-w.w c.loop-w.found c.count_word-found.result c.span-span.ensures.0 c.span-span.ensures.1 c.loop-w.invariant.0 c.if-w-eq0.false c.loop-w.invariant.1 c.count_word-found.ensures.value.0,
-  c.count_word-found.ensures.marks.sized ∙ c.loop-w.invariant.2,
-  λ v m. c.loop-w.invariant.3 v (row_word a.rows.now a.literal c.span-span.result c.span-span.ensures.0 c.loop-w.w c.loop-w.invariant.0 _ _ v c.count_word-found.ensures.marks m),
-)
+loop-w-preserved c = let step = c.in-Some.ensures.steps in
+    let n = next (goal.at.loop-w-preserved c).In-Some in
+    rw step.1 (record {
+      span = step.2 ∙ c.loop-w.invariant.span;
+      left = row_next _ _ _ _ _ _ n c.loop-w.invariant.left c.count_word-found.ensures.value.0;
+      sized = c.count_word-found.ensures.marks.sized ∙ c.loop-w.invariant.sized;
+      marks = λ v m. c.loop-w.invariant.marks v (row_word _ _ _ _ n _ _ v c.count_word-found.ensures.marks m);
+    })
+
+pub returns : goal.returns
+returns c = let e = row_last _ _ _ _ c.in-None.ensures.steps c.loop-w.invariant.left in record {
+  value = (e, omega (arith, e, row_few c.args.rows.now c.args.literal));
+  marks = c.loop-w.invariant.marks _ (row_end _ _ _ c.in-None.ensures.steps _);
+}

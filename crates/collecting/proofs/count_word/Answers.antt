@@ -17,24 +17,12 @@ low c =
     omega
     (arith, within_le c.args.w (keeps_at c.args.rows.now c.args.literal) c.requires.literal_value, c.requires.laid.0.few c.args.literal (omega (arith, c.requires.laid.1)))
 
-pub arguments_for-x-requires : goal.arguments_for-x-requires
-arguments_for-x-requires c = record {
-  laid = (c.requires.laid.0, c.requires.laid.1);
-  literal_value = c.requires.literal_value;
-}
-
 pub returns-then-x-eq0 : goal.returns-then-x-eq0
 returns-then-x-eq0 c = let a = c.args in
     record {
       value = (word_none a.rows.now a.literal a.w c.arguments_for-x.result c.if-x-eq0.true c.arguments_for-x.ensures, omega arith);
       marks = marks_idle a.rows.now a.touched.now a.literal a.w c.arguments_for-x.result c.arguments_for-x.ensures c.if-x-eq0.true;
     }
-
-pub bounds-touched-at : goal.bounds-touched-at
-bounds-touched-at c = omega (arith, low (goal.at.bounds-touched-at c).Start, c.requires.laid.2)
-
-pub bounds-touched-at-2 : goal.bounds-touched-at-2
-bounds-touched-at-2 c = omega (arith, low (goal.at.bounds-touched-at-2 c).Start, c.requires.laid.2)
 
 pub returns : goal.returns
 returns c = let a = c.args in

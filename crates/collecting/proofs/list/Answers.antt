@@ -17,20 +17,10 @@ read : (s : Start) (p : Program) → Limits p → Tells p.rules s.args.rows.now 
     → list_of s.args.rows.now (set_of s.args.literals) ≡ argument_list p.rules
 read s p = list_told p s.args.rows.now (set_of s.args.literals)
 
-pub count-count-requires : goal.count-count-requires
-count-count-requires c = (c.requires, refl)
-
 pub returns-then-arguments-count : goal.returns-then-arguments-count
 returns-then-arguments-count c = let n = c.count-count.ensures.value in record {
   result = (λ p limits rows derivable. listed_over _ _ c.args.arguments.now _ (read (goal.at.returns-then-arguments-count c).Start p limits rows derivable) n c.if-arguments-count.true);
   written = (λ p limits rows derivable. kept_over _ _ c.args.arguments.now _ (read (goal.at.returns-then-arguments-count c).Start p limits rows derivable) n c.if-arguments-count.true);
-}
-
-pub write-requires : goal.write-requires
-write-requires c = record {
-  laid = (c.requires, c.count-count.ensures.marks.sized);
-  marked = (λ l m member small a. c.count-count.ensures.marks.covers l m (member, small) a);
-  literals_in_bounds = omega (arith, c.count-count.ensures.value, c.if-arguments-count.false);
 }
 
 pub returns : goal.returns

@@ -8,9 +8,6 @@ use Rattle.literals.specs.Inside.Words.{set_of}
 use Rattle.collecting.proofs.Lists.{columns_list_lem}
 use Rattle.collecting.proofs.write_word.Goals as goal
 
-pub turn-masks-requires : goal.turn-masks-requires
-turn-masks-requires c = (c.requires.laid.0, c.requires.laid.1, refl)
-
 pub write_columns-requires : goal.write_columns-requires
 write_columns-requires c = let a = c.args in record {
   columns_len = (c.turn-masks.ensures.sized, c.requires.laid.1);

@@ -5,8 +5,5 @@ use Rattle.literals.specs.Inside.Words.{set_of}
 use Rattle.live.specs.Steps.{Taken}
 use Rattle.live.proofs.live_rules.Given as goal
 
-abbrev pub invariant-loop-left : goal.invariant-loop-left
-invariant-loop-left l = (length l.live ≡ length l.initial.live) × Taken l.table (set_of l.derived) (set_of l.literals) l.taken.n (set_of l.taken.taken) l.live
-
-abbrev pub decreases-loop-left : goal.decreases-loop-left
-decreases-loop-left l = l.left
+abbrev pub invariant-loop : goal.invariant-loop
+invariant-loop l = (length l.live ≡ length l.initial.live) × Taken l.table (set_of l.derived) (set_of l.literals) l.taken.n (set_of l.taken.taken) l.live

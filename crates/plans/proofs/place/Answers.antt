@@ -1,23 +1,21 @@
--- `place` meets its contract: the rows of both words.
-use mathlib.Core.Path.{◌∙◌}
 use Rattle.literals.specs.Inside.Words.{set_of}
 use Rattle.literals.proofs.Words.{joined_below}
-use Rattle.plans.proofs.Places.{placed_words}
+use Rattle.plans.proofs.Places.{left_all, left_more, left_none}
 use native.Mathlib.Omega.{arith}
 use borrow.Author.Rules.{rules}
 use Rattle.plans.proofs.place.Goals as goal
 
-pub place_word-requires : goal.place_word-requires
-place_word-requires c = record {
-  keep_len = c.requires.keep_len;
-  base_len = c.place_word-low.ensures.sized ∙ c.requires.base_len.0;
-  first_bound = (omega arith, omega (arith, c.place_word-low.ensures.low));
-}
+pub loop-literal-init : goal.loop-literal-init
+loop-literal-init c = rw c.into_iter-literal-iterator.ensures.into_iter_gives (left_all _ _ _ _ c.requires.base_len.1)
+
+pub loop-literal-preserved : goal.loop-literal-preserved
+loop-literal-preserved c = rw c.in-Some.ensures.steps.1 (left_more _ _ _ _ _ _ _ c.in-Some.literal c.requires.keep_len.1 c.in-Some.ensures.steps.0
+    (omega (arith, c.in-Some.ensures.steps.0.small, c.loop-literal.invariant.sized, c.requires.base_len.0)) c.loop-literal.invariant)
 
 pub returns : goal.returns
 unfolding set_of
 returns c = record {
-  base_len_2 = (c.place_word.ensures.sized ∙ c.place_word-low.ensures.sized ∙ c.requires.base_len.0, omega (arith, c.place_word-low.ensures.from, c.place_word.ensures.from), omega (arith, c.place_word.ensures.low));
-  placed_in = placed_words _ _ _ _ c.args.literals.hi c.args.literals.lo _ _ _ (search rules) c.place_word-low.ensures c.place_word.ensures;
+  base_len_2 = (omega (arith, c.loop-literal.invariant.sized, c.requires.base_len.0), c.loop-literal.invariant.from, c.loop-literal.invariant.low);
+  placed_in = left_none c.in-None.ensures.steps.0 c.loop-literal.invariant;
   literals_bound = joined_below c.args.literals.hi c.args.literals.lo (search rules) (search rules);
 }

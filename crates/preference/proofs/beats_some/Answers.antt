@@ -37,38 +37,18 @@ module _ {t : List ℕ} {x z rest : ℕ} (left : Left t x z rest) (b mask : ℕ)
         ∙ left.same p limits holds below;
   }
 
-pub loop-rest-init : goal.loop-rest-init
-loop-rest-init c = record { fewer = omega arith; same = λ p limits holds below. refl }
-
-pub lowest-bit-requires : goal.lowest-bit-requires
-lowest-bit-requires c = c.loop-rest-test.true
-
 pub beaten-requires : goal.beaten-requires
-beaten-requires c = let l = c.loop-rest in
-    omega (arith, has_bound l.rest 16 c.lowest-bit.result (omega (arith, l.invariant.fewer)) c.lowest-bit.ensures.member)
+beaten-requires c = omega (arith, has_bound c.loop-bit.bit-iterator.left 16 c.in-Some.bit (omega (arith, c.loop-bit.invariant.fewer)) c.in-Some.ensures.steps.0.member)
 
 pub returns-then-beaten-z-ne0 : goal.returns-then-beaten-z-ne0
-returns-then-beaten-z-ne0 c = let low = c.lowest-bit in
-    met c.loop-rest.invariant low.result c.beaten.result low.ensures.member
-    c.beaten.ensures c.if-beaten-z-ne0.true
+returns-then-beaten-z-ne0 c = met c.loop-bit.invariant c.in-Some.bit c.beaten.result c.in-Some.ensures.steps.0.member c.beaten.ensures c.if-beaten-z-ne0.true
 
-pub clear-rest-requires : goal.clear-rest-requires
-clear-rest-requires c = c.lowest-bit.ensures.small
-
-pub loop-rest-smaller : goal.loop-rest-smaller
-loop-rest-smaller c = let low = c.lowest-bit in
-    let rest = c.loop-rest.rest in
-    rw c.clear-rest.ensures (minus_less rest low.result low.ensures.member)
-
-pub loop-rest-preserved : goal.loop-rest-preserved
-loop-rest-preserved c = let low = c.lowest-bit in
-    let beaten = c.beaten in
-    rw c.clear-rest.ensures
-    (next c.loop-rest.invariant low.result beaten.result low.ensures.member
-    beaten.ensures c.if-beaten-z-ne0.false)
+pub loop-bit-preserved : goal.loop-bit-preserved
+loop-bit-preserved c = rw c.in-Some.ensures.steps.1
+    (next c.loop-bit.invariant c.in-Some.bit c.beaten.result c.in-Some.ensures.steps.0.member c.beaten.ensures c.if-beaten-z-ne0.false)
 
 pub returns : goal.returns
-returns c p limits holds below = let l = c.loop-rest in
+returns c p limits holds below = let l = c.loop-bit in
     let a = c.args in
-    sym (ap (λ (m : ℕ). beats_some p m a.z) c.loop-rest-test.false ∙ beats_some_none p a.z)
+    sym (ap (λ (m : ℕ). beats_some p m a.z) c.in-None.ensures.steps.0 ∙ beats_some_none p a.z)
     ∙ l.invariant.same p limits holds below

@@ -14,8 +14,5 @@ pub record Left (t : List ℕ) (x z rest : ℕ) : Type 0 where
   pub fewer : rest ≤ x
   pub same : (p : Program) → Limits p → Holds p t → Mask p x → beats_some p rest z ≡ beats_some p x z
 
-abbrev pub invariant-loop-rest : goal.invariant-loop-rest
-invariant-loop-rest l = Left l.table l.x l.z l.rest
-
-abbrev pub decreases-loop-rest : goal.decreases-loop-rest
-decreases-loop-rest l = l.rest
+abbrev pub invariant-loop-bit : goal.invariant-loop-bit
+invariant-loop-bit l = Left l.table l.x l.z l.bit-iterator.left
