@@ -3,7 +3,7 @@ use mathlib.Core.Path.{◌≡◌, refl, sym, ap, ◌∙◌, subst}
 use mathlib.Core.Bool.{Bool, true, false, not, ◌&&◌}
 use mathlib.Core.List.{List, [], ◌∷◌, ◌++◌, Memᴰ, append-nil}
 use mathlib.Core.Logic.{◌≢◌}
-use Prim.Native.Nat.{ℕ, suc, ◌+◌, ◌≤◌, ◌<◌}
+use Prim.Native.Nat.{ℕ, zero, suc, ◌+◌, ◌-◌, ◌≤◌, ◌<◌}
 use native.Mathlib.Omega.{arith}
 use native.Mathlib.Numerals.{add-one}
 use lib.ListN.{length, get_or, drop, drop_of_length-le}
@@ -139,7 +139,7 @@ module _ (t : Tests ℕ) {arguments : List ℕ} (L : Listing t arguments) (l : L
       x = get_or arguments j 0
 
       -- the candidate is no reply
-      pub going_skip : reply_kind t l x ≡ 0 → Going t l at limit before (j + 1) next mark tables
+      going_skip : reply_kind t l x ≡ 0 → Going t l at limit before (j + 1) next mark tables
       going_skip e = let s = replies_skip t L l j inside e in record {
         progress = subst (λ (r : Forest ℕ). Run (preorder place next at r) next tables) s g.progress;
         settles = ap (λ (r : Forest ℕ). settle mark (all_defeated r)) (sym s) ∙ g.settles;
@@ -183,6 +183,26 @@ module _ (t : Tests ℕ) {arguments : List ℕ} (L : Listing t arguments) (l : L
                 ∙ ap (λ (r : Forest ℕ). settle mark (all_defeated r)) (sym taken)
                 ∙ g.settles;
           }
+
+-- none of the candidates from j up to j + n, and up to i, is a reply
+module _ (t : Tests ℕ) {arguments : List ℕ} (L : Listing t arguments) (l : List ℕ) (at limit : ℕ) (before : Columns)
+    {next mark : ℕ} {tables : Columns} where
+  going_skips : (n j : ℕ) → Going t l at limit before j next mark tables → j + n ≤ length arguments
+      → ((k : ℕ) → j ≤ k → k < j + n → reply_kind t l (get_or arguments k 0) ≡ 0)
+      → Going t l at limit before (j + n) next mark tables
+  going_skips zero j g h e = let z : j + 0 ≡ j = omega arith in rw z g
+  going_skips (suc n) j g h e =
+      let z : j + suc n ≡ j + 1 + n = omega arith in
+      rw z
+      (going_skips n (j + 1) (going_skip t L l at limit before g (omega arith) (e j (omega arith) (omega arith))) (omega arith)
+      (λ k a b. e k (omega arith) (omega arith)))
+
+  pub going_pass : (i : ℕ) {j : ℕ} → Going t l at limit before j next mark tables → j ≤ i → i ≤ length arguments
+      → ((k : ℕ) → j ≤ k → k < i → reply_kind t l (get_or arguments k 0) ≡ 0) → Going t l at limit before i next mark tables
+  going_pass i {j} g a b e =
+      let z : j + (i - j) ≡ i = omega arith in
+      subst (λ (k : ℕ). Going t l at limit before k next mark tables) z
+      (going_skips (i - j) j g (omega arith) (λ k c d. e k c (omega arith)))
 
 -- ---- the node at number `at` is argument number j, its line without it is l, and the tables were t
 

@@ -1,8 +1,7 @@
 -- From what a step is asked to what it asks of a candidate and of a reply's step.
 use mathlib.Core.Path.{◌≡◌, refl, sym, ap, ◌∙◌, subst}
 use mathlib.Core.List.{List, [], ◌∷◌, Memᴰ}
-use mathlib.Core.Logic.{◌≢◌}
-use Prim.Native.Nat.{ℕ, zero, suc, ◌+◌, ◌-◌, ◌≤◌, ◌<◌}
+use Prim.Native.Nat.{ℕ, zero, suc, ◌+◌, ◌≤◌, ◌<◌}
 use native.Mathlib.Omega.{arith}
 use native.Mathlib.Numerals.{add-one}
 use lib.ListN.{length, get_or, set}
@@ -11,9 +10,10 @@ use Rattle.lists.specs.Lists.{Within}
 use Rattle.literals.specs.Sets.{union}
 use Rattle.argument.specs.Argument.{mask_of}
 use Rattle.tree.specs.declared.candidates.Framework.{Framework}
+use Rattle.tree.specs.declared.candidates.Reply.{Reply}
 use Rattle.tree.specs.declared.nodes.Step.{Step}
-use Rattle.tree.specs.Reply.{mine, theirs, reply_kind, last_kind}
-use Rattle.tree.specs.Inside.Steps.{line_of, masks_of, Prepared, tests_in, argument_of, answered, Ready, Asked}
+use Rattle.tree.specs.Reply.{mine, theirs, last_kind}
+use Rattle.tree.specs.Inside.Steps.{line_of, masks_of, tests_in, argument_of, answered, Ready, Asked, FirstReply}
 use Rattle.tree.proofs.Reply.{reply_last}
 
 -- ---- the line in its table
@@ -31,11 +31,6 @@ line_more line depth x h =
     let e = get_or-set_same line depth x 0 h in
     let r = line_same line depth depth x (omega arith) in
     rw add-one (cc)
-
--- its last argument, and the others
-pub line_last : (line : List ℕ) (depth : ℕ) → 0 < depth → line_of line depth ≡ get_or line (depth - 1) 0 ∷ line_of line (depth - 1)
-line_last line zero h = absurd (omega arith)
-line_last line (suc depth) h = let e : suc depth - 1 ≡ depth = omega arith in rw e
 
 -- one less
 pub line_less : (line before : List ℕ) (depth x : ℕ) → line_of line (depth + 1) ≡ x ∷ line_of before depth
@@ -60,22 +55,19 @@ module _ {f : Framework} {before : List ℕ} {s : Step} {limit : ℕ} (ready : R
       (within_more (argument_of f s) (get_d_in f.arguments.now s.index ready.in_list) ready.on_line)
 
   -- what is asked of a candidate: its side is the other one
-  pub ready_asked : s.depth + 1 ≤ length line → Asked f line (s.depth + 1) s.other s.kind
+  pub ready_asked : s.depth < length line → Asked f line s
   ready_asked h = record {
     prepared = ready.prepared;
     on_line = on_line_more;
     side_masks = ready.other_masks ∙ ap (λ (l : List ℕ). masks_of (theirs l)) (sym more);
     last_is = λ w. ready.kind_is w ∙ ap (last_kind (tests_in w)) (sym more);
-    deep = omega arith;
     line_holds = h;
   }
 
   -- what a reply's step is asked: the sides change places
-  pub ready_reply : (i k next : ℕ)
-      → ((w : Prepared f) → k ≡ reply_kind (tests_in w) (line_of line (s.depth + 1)) (get_or f.arguments.now i 0)) → k ≢ 0
-      → i < length f.arguments.now → s.at < next → next ≤ limit → limit ≤ length line
-      → Ready f line (answered s (union s.own (mask_of (argument_of f s))) i k next) limit
-  ready_reply i k next kind is_reply inside low high long = record {
+  pub ready_reply : {start next : ℕ} {r : Reply} → FirstReply f line s start r → s.at < next → next ≤ limit
+      → limit ≤ length line → Ready f line (answered s (union s.own (mask_of (argument_of f s))) r next) limit
+  ready_reply {r = r} first low high long = record {
     prepared = ready.prepared;
     on_line = on_line_more;
     own_masks = ready.other_masks ∙ ap (λ (l : List ℕ). masks_of (theirs l)) (sym more);
@@ -83,9 +75,10 @@ module _ {f : Framework} {before : List ℕ} {s : Step} {limit : ℕ} (ready : R
         ap (λ (m : ℕ). union m (mask_of (argument_of f s))) ready.own_masks
         ∙ ap (λ (l : List ℕ). masks_of (mine l)) (sym more);
     kind_is = λ w.
-        kind w
-        ∙ reply_last (tests_in w) (line_of line (s.depth + 1)) (get_or f.arguments.now i 0) (λ z. is_reply (kind w ∙ z));
-    in_list = inside;
+        first.kind_is w
+        ∙ reply_last (tests_in w) (line_of line (s.depth + 1)) (get_or f.arguments.now r.index 0)
+        (λ z. first.is_reply (first.kind_is w ∙ z));
+    in_list = first.in_list;
     parent_in = omega arith;
     deep = let d = ready.deep in omega arith;
     below = high;

@@ -1,7 +1,6 @@
 -- A step on its way: the replies up to a candidate are written. One record of what holds then serves both sides.
-use mathlib.Core.Path.{◌≡◌, refl, sym, ap, ◌∙◌}
+use mathlib.Core.Path.{◌≡◌, refl, ap, ◌∙◌}
 use mathlib.Core.List.{List, ◌∷◌}
-use mathlib.Core.Logic.{◌≢◌}
 use Prim.Native.Nat.{ℕ, suc, ◌+◌, ◌-◌, ◌≤◌, ◌<◌}
 use native.Mathlib.Omega.{arith}
 use lib.ListN.{length, get_or, length-set}
@@ -10,15 +9,16 @@ use Rattle.literals.specs.Sets.{union}
 use Rattle.argument.specs.Argument.{mask_of}
 use Rattle.defeat.specs.Tests.{Tests}
 use Rattle.tree.specs.declared.candidates.Framework.{Framework}
+use Rattle.tree.specs.declared.candidates.Reply.{Reply}
 use Rattle.tree.specs.declared.nodes.Columns.{Columns}
 use Rattle.tree.specs.declared.nodes.Step.{Step}
 use Rattle.tree.specs.Reply.{reply_kind}
 use Rattle.tree.specs.Forest.{replies}
 use Rattle.tree.specs.Entries.{Entry, preorder}
 use Rattle.tree.specs.Inside.Tables.{opened, closed, Fits, Over}
-use Rattle.tree.specs.Inside.Steps.{line_of, tree_entries, settled_by, Prepared, tests_in, argument_of, answered, Ready, Asked, Enters, Entered}
+use Rattle.tree.specs.Inside.Steps.{line_of, tree_entries, settled_by, Prepared, tests_in, argument_of, answered, Ready, Asked, NoReply, FirstReply, Enters, Entered}
 use Rattle.tree.proofs.Tables.{fits_marks}
-use Rattle.tree.proofs.Growing.{Going, going_start, going_skip, going_end, going_over, going_step, tree_room, tree_none, tree_over, tree_end}
+use Rattle.tree.proofs.Growing.{Going, going_start, going_pass, going_end, going_over, going_step, tree_room, tree_none, tree_over, tree_end}
 use Rattle.tree.proofs.Steps.{line_more, line_less, ready_asked, ready_reply}
 use Rattle.tree.proofs.Listings.{prepared_count, prepared_listing}
 
@@ -90,6 +90,10 @@ module _ {f : Framework} {line₀ : List ℕ} {s : Step} {limit : ℕ} {t₀ : C
   abbrev l : List ℕ
   l = argument_of f s ∷ line_of line₀ s.depth
 
+  -- the tables with the node's entry
+  abbrev o : Columns
+  o = opened s.at s.index s.parent s.kind t₀
+
   -- the line up to the parent stays
   turn_line : (line' : List ℕ) → line_of line' (s.depth + 1) ≡ line_of line (s.depth + 1) → line_of line' s.depth ≡ line_of line₀ s.depth
   turn_line line' e = line_less line' line₀ s.depth (argument_of f s) (e ∙ T.line_is)
@@ -97,102 +101,92 @@ module _ {f : Framework} {line₀ : List ℕ} {s : Step} {limit : ℕ} {t₀ : C
   pub turn_kept : line_of line s.depth ≡ line_of line₀ s.depth
   turn_kept = turn_line line refl
 
-  pub turn_asked : Asked f line (s.depth + 1) s.other s.kind
+  pub turn_asked : Asked f line s
   turn_asked =
       let d = T.ready.deep in
       let h = T.ready.line_holds in
       ready_asked T.ready line T.line_is (omega (arith, T.line_long, T.room))
 
   -- no candidate is left, and the node is marked
-  pub turn_end : length f.arguments.now ≤ start → (w : Prepared f)
+  pub turn_end : NoReply f line s start (length f.arguments.now) → (w : Prepared f)
       → Fits (tree_entries (tests_in w) (line_of line₀ s.depth) (argument_of f s) s.kind s.at s.parent) s.at limit next t₀ (closed s.at mark t)
-  turn_end h w =
-      let b = going_end (tests_in w) (prepared_listing w) l s.at limit (opened s.at s.index s.parent s.kind t₀) (T.going w) h in
+  turn_end none w =
+      let b = going_end (tests_in w) (prepared_listing w) l s.at limit o
+      (going_pass (tests_in w) (prepared_listing w) l s.at limit o (length f.arguments.now) (T.going w) T.start_in (omega arith)
+      (rw T.line_is at (none w))) (omega arith) in
       tree_end (tests_in w) (prepared_listing w) (line_of line₀ s.depth) s.index s.parent s.kind s.at limit T.ready.in_list t₀ b.0 b.1
 
-  module _ (inside : start < length f.arguments.now) (kind : ℕ)
-      (kind_is : (w : Prepared f) → kind ≡ reply_kind (tests_in w) (line_of line (s.depth + 1)) (get_or f.arguments.now start 0)) where
-    kind_on : (w : Prepared f) → kind ≡ reply_kind (tests_in w) l (get_or f.arguments.now start 0)
-    kind_on w = rw T.line_is at (kind_is w)
+  module _ {r : Reply} (first : FirstReply f line s start r) where
+    -- the candidates that are left are fewer
+    pub turn_less : length f.arguments.now - (r.index + 1) < length f.arguments.now - start
+    turn_less = omega (arith, first.low, first.in_list)
 
-    -- the candidate is no reply
-    pub turn_skip : kind ≡ 0 → Turn f line₀ s limit t₀ joined line t mark next (start + 1)
-    turn_skip e = record {
-      ready = T.ready;
-      joined_is = T.joined_is;
-      room = T.room;
-      line_is = T.line_is;
-      line_long = T.line_long;
-      marks_hold = T.marks_hold;
-      low = T.low;
-      high = T.high;
-      start_in = omega arith;
-      going = λ w.
-          going_skip (tests_in w) (prepared_listing w) l s.at limit (opened s.at s.index s.parent s.kind t₀) (T.going w) inside
-          (sym (kind_on w) ∙ e);
-    }
+    -- the other side's step is asked less: m is what this one has left
+    pub turn_ready : {m : ℕ} → limit - s.at ≡ m → (limit - next < m) × Ready f line (answered s joined r next) limit
+    turn_ready left = (
+      omega (arith, T.room, T.low, T.high),
+      rw (T.joined_is)
+          (ready_reply T.ready line T.line_is first T.low T.high (let h = T.ready.line_holds in omega (arith, T.line_long))),
+    )
 
-    module _ (is_reply : kind ≢ 0) where
-      -- the other side's step is asked less: m is what this one has left
-      pub turn_ready : {m : ℕ} → limit - s.at ≡ m
-          → (limit - next < m) × Ready f line (answered s joined start kind next) limit
-      turn_ready left = (
-        omega (arith, T.room, T.low, T.high),
-        rw (T.joined_is)
-            (ready_reply T.ready line T.line_is start kind next kind_is is_reply inside T.low T.high
-            (let h = T.ready.line_holds in omega (arith, T.line_long))),
-      )
+    passed : (w : Prepared f) → Going (tests_in w) l s.at limit o r.index next mark t
+    passed w =
+        going_pass (tests_in w) (prepared_listing w) l s.at limit o r.index (T.going w) first.low (omega (arith, first.in_list))
+        (rw T.line_is at (first.none_before w))
 
-      -- the other side's step is done
-      module _ (line' : List ℕ) (kept : line_of line' (s.depth + 1) ≡ line_of line (s.depth + 1)) where
-        pub turn_left : line_of line' s.depth ≡ line_of line₀ s.depth
-        turn_left = turn_line line' kept
+    kind_on : (w : Prepared f) → r.kind ≡ reply_kind (tests_in w) l (get_or f.arguments.now r.index 0)
+    kind_on w = rw T.line_is at (first.kind_is w)
 
-      module _ {t' : Columns} where
-        -- a reply's tree does not fit
-        pub turn_over : ((w : Prepared f)
-            → Over (tree_entries (tests_in w) (line_of line (s.depth + 1)) (get_or f.arguments.now start 0) kind next s.at) next limit t t')
-            → (w : Prepared f)
-            → Over (tree_entries (tests_in w) (line_of line₀ s.depth) (argument_of f s) s.kind s.at s.parent) s.at limit t₀ t'
-        turn_over o w =
-            tree_over (tests_in w) (prepared_listing w) (line_of line₀ s.depth) s.index s.parent s.kind s.at limit T.ready.in_list t₀
-            (going_over (tests_in w) (prepared_listing w) l s.at limit (opened s.at s.index s.parent s.kind t₀) (T.going w) inside kind
-            (kind_on w) is_reply (rw T.line_is at (o w)))
-            T.room
+    -- the other side's step is done
+    pub turn_left : (line' : List ℕ) → line_of line' (s.depth + 1) ≡ line_of line (s.depth + 1)
+        → line_of line' s.depth ≡ line_of line₀ s.depth
+    turn_left line' kept = turn_line line' kept
 
-        -- a reply's tree is written
-        module _ {end : ℕ}
-            (below : (w : Prepared f)
-            → Fits (tree_entries (tests_in w) (line_of line (s.depth + 1)) (get_or f.arguments.now start 0) kind next s.at) next limit end t t') where
-          fits_on : (w : Prepared f) → Fits (tree_entries (tests_in w) l (get_or f.arguments.now start 0) kind next s.at) next limit end t t'
-          fits_on w = rw T.line_is at (below w)
+    module _ {t' : Columns} where
+      -- a reply's tree does not fit
+      pub turn_over : ((w : Prepared f)
+          → Over (tree_entries (tests_in w) (line_of line (s.depth + 1)) (get_or f.arguments.now r.index 0) r.kind next s.at) next limit t t')
+          → (w : Prepared f)
+          → Over (tree_entries (tests_in w) (line_of line₀ s.depth) (argument_of f s) s.kind s.at s.parent) s.at limit t₀ t'
+      turn_over over w =
+          tree_over (tests_in w) (prepared_listing w) (line_of line₀ s.depth) s.index s.parent s.kind s.at limit T.ready.in_list t₀
+          (going_over (tests_in w) (prepared_listing w) l s.at limit o (passed w) first.in_list r.kind (kind_on w) first.is_reply
+          (rw T.line_is at (over w)))
+          T.room
 
-          -- and has a number
-          turn_room : next < end
-          turn_room =
-              let w = T.ready.prepared in tree_room (tests_in w) l (get_or f.arguments.now start 0) kind next s.at (fits_on w)
+      -- a reply's tree is written
+      module _ {end : ℕ}
+          (below : (w : Prepared f)
+          → Fits (tree_entries (tests_in w) (line_of line (s.depth + 1)) (get_or f.arguments.now r.index 0) r.kind next s.at) next limit end t t') where
+        fits_on : (w : Prepared f) → Fits (tree_entries (tests_in w) l (get_or f.arguments.now r.index 0) r.kind next s.at) next limit end t t'
+        fits_on w = rw T.line_is at (below w)
 
-          turn_high : end ≤ limit
-          turn_high = (below T.ready.prepared).within
+        -- and has a number
+        turn_room : next < end
+        turn_room =
+            let w = T.ready.prepared in tree_room (tests_in w) l (get_or f.arguments.now r.index 0) r.kind next s.at (fits_on w)
 
-          -- so its mark can be read
-          pub turn_mark : next < 4096
-          turn_mark = omega (arith, turn_room, turn_high, T.ready.budget)
+        turn_high : end ≤ limit
+        turn_high = (below T.ready.prepared).within
 
-          pub turn_step : (line' : List ℕ) {mark' : ℕ} → line_of line' (s.depth + 1) ≡ line_of line (s.depth + 1)
-              → length line' ≡ length line → mark' ≡ settled_by mark (get_or t'.marks next 0)
-              → Turn f line₀ s limit t₀ joined line' t' mark' end (start + 1)
-          turn_step line' kept nl em = record {
-            ready = T.ready;
-            joined_is = T.joined_is;
-            room = T.room;
-            line_is = kept ∙ T.line_is;
-            line_long = nl ∙ T.line_long;
-            marks_hold = omega (arith, T.marks_hold, fits_marks (below T.ready.prepared));
-            low = omega (arith, T.low, turn_room);
-            high = turn_high;
-            start_in = omega arith;
-            going = λ w. rw em
-                (going_step (tests_in w) (prepared_listing w) l s.at limit (opened s.at s.index s.parent s.kind t₀) (T.going w) inside kind
-                (kind_on w) is_reply (fits_on w) T.marks_hold);
-          }
+        -- so its mark can be read
+        pub turn_mark : next < 4096
+        turn_mark = omega (arith, turn_room, turn_high, T.ready.budget)
+
+        pub turn_step : (line' : List ℕ) {mark' : ℕ} → line_of line' (s.depth + 1) ≡ line_of line (s.depth + 1)
+            → length line' ≡ length line → mark' ≡ settled_by mark (get_or t'.marks next 0)
+            → Turn f line₀ s limit t₀ joined line' t' mark' end (r.index + 1)
+        turn_step line' kept nl em = record {
+          ready = T.ready;
+          joined_is = T.joined_is;
+          room = T.room;
+          line_is = kept ∙ T.line_is;
+          line_long = nl ∙ T.line_long;
+          marks_hold = omega (arith, T.marks_hold, fits_marks (below T.ready.prepared));
+          low = omega (arith, T.low, turn_room);
+          high = turn_high;
+          start_in = omega (arith, first.in_list);
+          going = λ w. rw em
+              (going_step (tests_in w) (prepared_listing w) l s.at limit o (passed w) first.in_list r.kind (kind_on w) first.is_reply
+              (fits_on w) T.marks_hold);
+        }

@@ -3,6 +3,8 @@ ghost use Rattle.std.specs.Prelude.{◌≡◌, ◌<◌};
 ghost use Rattle.tree.specs.Inside.Tables.{opened};
 ghost use Rattle.tree.specs.Inside.Steps.{settled_by, answered, Enters, Entered};
 
+use crate::candidates::Reply;
+
 // A forest: one table of numbers for each field of the nodes' entries, each as long as the largest budget.
 #[derive(Drop)]
 pub struct Columns {
@@ -27,13 +29,13 @@ pub struct Step {
 
 impl Step {
     // The step of a reply to this one: the sides change places. `joined` has the masks of this one's side with its own.
-    pub fn answered(self, joined: u64, index: usize, kind: u8, at: usize) -> Self
+    pub fn answered(self, joined: u64, reply: Reply, at: usize) -> Self
         requires { self.depth < 4096 }
-        ensures { result ≡ answered self joined index kind at }
+        ensures { result ≡ answered self joined reply at }
     {
         Step {
-            index,
-            kind,
+            index: reply.index,
+            kind: reply.kind,
             depth: self.depth + 1,
             own: self.other,
             other: joined,

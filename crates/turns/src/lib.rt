@@ -5,7 +5,7 @@
 ghost use Rattle.tree.specs.Inside.Steps.{Ready, Leaves};
 
 use argument::numbers::mask_of;
-use tree::candidates::{Framework, reply_kind};
+use tree::candidates::{Framework, first_reply};
 use tree::nodes::{Columns, Step, enter, settled};
 
 // Writes the tree of a supporter's argument. Returns the next free number, or None where the tree has more nodes than the
@@ -29,21 +29,13 @@ pub fn supporter(
     let supports = step.own | mask_of(argument);
     let mut mark = 1u8;
     let mut next = step.at + 1;
-    for index in 0..framework.arguments.len() {
-        let kind = reply_kind(
-            framework,
-            line,
-            step.depth + 1,
-            step.other,
-            step.kind,
-            index,
-        );
-        if kind != 0 {
-            let objection = step.answered(supports, index, kind, next);
-            let end = objector(framework, line, objection, limit, columns)?;
-            mark = settled(mark, columns.marks[next]);
-            next = end;
-        }
+    let mut start = 0;
+    while let Some(objection) = first_reply(framework, line, step, start) {
+        let reply = step.answered(supports, objection, next);
+        let end = objector(framework, line, reply, limit, columns)?;
+        mark = settled(mark, columns.marks[next]);
+        next = end;
+        start = objection.index + 1;
     }
     columns.marks[step.at] = mark;
     Some(next)
@@ -69,21 +61,13 @@ pub fn objector(
     let objections = step.own | mask_of(argument);
     let mut mark = 1u8;
     let mut next = step.at + 1;
-    for index in 0..framework.arguments.len() {
-        let kind = reply_kind(
-            framework,
-            line,
-            step.depth + 1,
-            step.other,
-            step.kind,
-            index,
-        );
-        if kind != 0 {
-            let support = step.answered(objections, index, kind, next);
-            let end = supporter(framework, line, support, limit, columns)?;
-            mark = settled(mark, columns.marks[next]);
-            next = end;
-        }
+    let mut start = 0;
+    while let Some(support) = first_reply(framework, line, step, start) {
+        let reply = step.answered(objections, support, next);
+        let end = supporter(framework, line, reply, limit, columns)?;
+        mark = settled(mark, columns.marks[next]);
+        next = end;
+        start = support.index + 1;
     }
     columns.marks[step.at] = mark;
     Some(next)

@@ -1,5 +1,5 @@
 -- What the steps of supporter and objector are asked, and what they leave.
-use Rattle.std.specs.Prelude.{◌≡◌, List, [], ◌∷◌, ℕ, zero, suc, ◌+◌, ◌^◌, ◌≤◌, ◌<◌, length, get_or, set, eqb, Option}
+use Rattle.std.specs.Prelude.{◌≡◌, List, [], ◌∷◌, ◌≢◌, ℕ, zero, suc, ◌+◌, ◌^◌, ◌≤◌, ◌<◌, length, get_or, set, eqb, Option}
 use Rattle.lists.specs.Lists.{Within, choose, index_in}
 use Rattle.literals.specs.Sets.{union}
 use Rattle.program.specs.Program.{Program}
@@ -10,9 +10,10 @@ use Rattle.preference.specs.Preference.{preferred_test}
 use Rattle.defeat.specs.Inside.Exclusions.{Ready as Made}
 use Rattle.defeat.specs.OfProgram.{tests_of}
 use Rattle.tree.specs.declared.candidates.Framework.{Framework}
+use Rattle.tree.specs.declared.candidates.Reply.{Reply}
 use Rattle.tree.specs.declared.nodes.Columns.{Columns}
 use Rattle.tree.specs.declared.nodes.Step.{Step}
-use Rattle.tree.specs.Reply.{mine, theirs, last_kind}
+use Rattle.tree.specs.Reply.{mine, theirs, reply_kind, last_kind}
 use Rattle.tree.specs.Forest.{none, tree, replies}
 use Rattle.tree.specs.Entries.{Entry, preorder}
 use Rattle.tree.specs.Inside.Tables.{opened, Built}
@@ -74,10 +75,10 @@ Leaves f line line' s limit r t t' =
     × (line_of line' s.depth ≡ line_of line s.depth)
 
 -- the step of a reply to a step: the sides change places
-abbrev pub answered : (s : Step) (joined index kind at : ℕ) → Step
-answered s joined index kind at = record {
-  index = index;
-  kind = kind;
+abbrev pub answered : (s : Step) (joined : ℕ) (r : Reply) (at : ℕ) → Step
+answered s joined r at = record {
+  index = r.index;
+  kind = r.kind;
   depth = s.depth + 1;
   own = s.other;
   other = joined;
@@ -85,15 +86,27 @@ answered s joined index kind at = record {
   at = at;
 }
 
--- what is asked of a candidate: the line is that of the node it replies to, `side` has the masks of the candidate's side
--- on it, and `last` is the kind of its last argument
-pub record Asked (f : Framework) (line : List ℕ) (depth side last : ℕ) : Type 0 where
+-- what is asked before replies to a step are looked for: its argument is the last one on the line, `other` has the masks of the
+-- replies' side on it
+pub record Asked (f : Framework) (line : List ℕ) (s : Step) : Type 0 where
   pub prepared : Prepared f
-  pub on_line : Within (line_of line depth) f.arguments.now
-  pub side_masks : side ≡ masks_of (theirs (line_of line depth))
-  pub last_is : (w : Prepared f) → last ≡ last_kind (tests_in w) (line_of line depth)
-  pub deep : 0 < depth
-  pub line_holds : depth ≤ length line
+  pub on_line : Within (line_of line (s.depth + 1)) f.arguments.now
+  pub side_masks : s.other ≡ masks_of (theirs (line_of line (s.depth + 1)))
+  pub last_is : (w : Prepared f) → s.kind ≡ last_kind (tests_in w) (line_of line (s.depth + 1))
+  pub line_holds : s.depth < length line
+
+-- none of the candidates from `start` up to number n is a reply to the step
+abbrev pub NoReply : (f : Framework) (line : List ℕ) (s : Step) (start n : ℕ) → Type 0
+NoReply f line s start n = (w : Prepared f) (i : ℕ) → start ≤ i → i < n
+    → reply_kind (tests_in w) (line_of line (s.depth + 1)) (get_or f.arguments.now i 0) ≡ 0
+
+-- the first candidate from `start` on that is a reply
+pub record FirstReply (f : Framework) (line : List ℕ) (s : Step) (start : ℕ) (r : Reply) : Type 0 where
+  pub low : start ≤ r.index
+  pub in_list : r.index < length f.arguments.now
+  pub none_before : NoReply f line s start r.index
+  pub kind_is : (w : Prepared f) → r.kind ≡ reply_kind (tests_in w) (line_of line (s.depth + 1)) (get_or f.arguments.now r.index 0)
+  pub is_reply : r.kind ≢ 0
 
 -- what is asked before a node is entered: each table has its place, and the numbers fit
 pub record Enters (line : List ℕ) (s : Step) : Type 0 where
