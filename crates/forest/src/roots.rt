@@ -50,8 +50,8 @@ fn trees(
 {
     let mut undefeated = false;
     let mut next = at;
-    for index in 0..framework.arguments.len() {
-        if literal_of(framework.arguments[index]) == literal {
+    for (index, argument) in framework.arguments.iter().enumerate() {
+        if literal_of(*argument) == literal {
             let root = Step {
                 index,
                 kind: 0,

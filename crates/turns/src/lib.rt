@@ -30,6 +30,7 @@ pub fn supporter(
     let mut mark = 1u8;
     let mut next = step.at + 1;
     let mut start = 0;
+    // A `for` over all candidates, with the test in it, was tried: up to three times the instructions of this search.
     while let Some(objection) = first_reply(framework, line, step, start) {
         let reply = step.answered(supports, objection, next);
         let end = objector(framework, line, reply, limit, columns)?;
@@ -41,7 +42,7 @@ pub fn supporter(
     Some(next)
 }
 
-// The same for an objector's argument.
+// The same for an objector's argument: two steps that call each other, by a rule of the project, and not one for both sides.
 #[cycle(objector_supporter)]
 pub fn objector(
     framework: &Framework<'_>,
