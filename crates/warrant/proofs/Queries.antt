@@ -121,11 +121,11 @@ module _ (s : List ℕ) (h b : ℕ) (arguments : List ℕ) (room : ℕ) where
                   let f = fits false (lt-leb (length (list_in s)) (length arguments) (ltb-true _ _ e)) in
                   let v = last_by true e in
                   let q = ap (λ (o : Option Answer). outcome_of (ok_or o (record { cause = ArgumentTable; place = 0 }))) (d.result_is ∙ f.0)
-                      ∙ result_by (verdicts.Refused 23 0) v in
+                  ∙ result_by (verdicts.Refused 23 0) v in
                   (q, d.arguments_are ∙ f.1 ∙ table_by (verdicts.Refused 23 0) v, d.nodes_are ∙ left_by r ∙ columns_by _ before q)
               go false e =
                   let f = fits true (le-leb (length (list_in s)) (length arguments) (ltb-false _ _ e)) in
                   let v = last_by false e in
                   let q = ap (λ (o : Option Answer). outcome_of (ok_or o (record { cause = ArgumentTable; place = 0 }))) (d.result_is ∙ f.0)
-                      ∙ result_by verdicts.Accepted v in
+                  ∙ result_by verdicts.Accepted v in
                   (q, d.arguments_are ∙ f.1 ∙ table_by verdicts.Accepted v, d.nodes_are ∙ left_by r ∙ columns_by _ before q)

@@ -34,6 +34,7 @@ pub fn query(
     if room < budget as usize {
         return Err(Cause::NodeTable.at(0));
     }
-    decision::sized::query(&table, arguments, literal as u64, budget, columns)
-        .ok_or(Cause::ArgumentTable.at(0))
+    decision::sized::query(&table, arguments, literal as u64, budget, columns).ok_or(
+        Cause::ArgumentTable.at(0),
+    )
 }
