@@ -27,7 +27,7 @@ pub struct Reached {
 }
 
 // Those two sets, the atoms that may clash, by their even literals, where the literals' rows end and that of the contradictory
-// masks begins, and what bears on it.
+// masks begins, and what bears on it. Flat: with `Reached` in it each clause that names a set would be longer.
 #[derive(Clone, Copy)]
 pub struct Ground {
     pub derived: LiteralSet,
