@@ -11,10 +11,10 @@ use lib.Dec.{eqb}
 use lib.ListN.{length, get_or, set, length-set}
 use lib.Seq.{get_or-set_same, get_or-set_other}
 use borrow.Author.Tests.{ne_eqb}
-use Rattle.literals.specs.Sets.{has, minus, union, within}
+use Rattle.literals.specs.Sets.{has, minus, union, within, LowestBelow}
 use Rattle.literals.proofs.Tests.{and_intro, and_left, and_right, or_left, or_right}
 use Rattle.literals.proofs.Members.{has_empty, has_cases, has_and, has_union, has_minus_power}
-use Rattle.literals.proofs.Within.{within_le}
+use Rattle.literals.proofs.Within.{within_le, within_refl, within_trans, minus_within}
 use Rattle.rows.specs.Span.{Greatest}
 use Rattle.closures.specs.Inside.Table.{begins_at, keeps_at, word_at, Laid}
 use Rattle.closing.specs.Inside.Steps.{ClashAt, ClashWord, ClashRow}
@@ -25,7 +25,7 @@ pub record Clashed (t : List ℕ) (q w s x : ℕ) : Type 0 where
   pub passes : (k : ℕ) → ClashAt t q w k → has x k ≡ true
   pub says : (k : ℕ) → has x k ≡ true → (has s k ≡ false) → ClashAt t q w k
 
-pub clashed_none : (t : List ℕ) (q w s : ℕ) → q ≡ 0 → Clashed t q w s s
+clashed_none : (t : List ℕ) (q w s : ℕ) → q ≡ 0 → Clashed t q w s s
 clashed_none t q w s e = rw e (record {
   started = λ k h. h;
   passes = λ k (l, h, p, r). absurd (false≢true (sym (has_empty l) ∙ h));
@@ -40,7 +40,7 @@ module _ (t : List ℕ) (q w s b : ℕ) (member : has q b ≡ true) where
   left : (j : ℕ) → has q j ≡ true → (j ≡ b → ⊥) → has (minus q (2 ^ b)) j ≡ true
   left j e o = has_minus_power q b j ∙ and_intro (has q j) (not (eqb j b)) e (ap not (ne_eqb j b o))
 
-  pub clashed_more : (x : ℕ) → Clashed t (minus q (2 ^ b)) w (union s (bit_and (word_at t b w) (word_at t (b + 1) w))) x
+  clashed_more : (x : ℕ) → Clashed t (minus q (2 ^ b)) w (union s (bit_and (word_at t b w) (word_at t (b + 1) w))) x
       → Clashed t q w s x
   clashed_more x more = record {
     started = λ k h. more.started k (has_union s here k ∙ or_left (has s k) (has here k) h);
@@ -66,8 +66,25 @@ module _ (t : List ℕ) (q w s b : ℕ) (member : has q b ≡ true) where
           let found = more.says k h (has_union s here k ∙ ap₂ ◌||◌ n y) in
           (found.0, and_left (has q found.0) (not (eqb found.0 b)) (sym (has_minus_power q b found.0) ∙ found.1), found.2, found.3)
 
-pub clashed_word : {t : List ℕ} {q w x : ℕ} → Clashed t q w 0 x → ClashWord t q w x
-clashed_word all = record { passes = all.passes; says = λ k h. all.says k h (has_empty k) }
+-- what is left of the atoms is left to be looked at
+pub record Clashing (t : List ℕ) (q w left x : ℕ) : Type 0 where
+  pub part : within left q ≡ true
+  pub rest : (r : ℕ) → Clashed t left w x r → Clashed t q w 0 r
+
+pub clashing_all : (t : List ℕ) (q w left : ℕ) → left ≡ q → Clashing t q w left 0
+clashing_all t q w left e = rw e (record { part = within_refl q; rest = λ r m. m })
+
+pub clashing_more : (t : List ℕ) (q w left x b next y : ℕ) → LowestBelow 128 left b → minus left (2 ^ b) ≡ next
+    → y ≡ bit_and (word_at t b w) (word_at t (b + 1) w) → Clashing t q w left x → Clashing t q w next (union x y)
+clashing_more t q w left x b next y lowest e is so = rw (← e, is) (record {
+  part = within_trans (minus left (2 ^ b)) left q (minus_within left (2 ^ b)) so.part;
+  rest = λ r m. so.rest r (clashed_more t left w x b lowest.member r m);
+})
+
+pub clashing_none : (t : List ℕ) (q w left x : ℕ) → left ≡ 0 → Clashing t q w left x → ClashWord t q w x
+clashing_none t q w left x e so =
+    let all = so.rest x (clashed_none t left w x e) in
+    record { passes = all.passes; says = λ k h. all.says k h (has_empty k) }
 
 -- a table of the same length with the same words before n
 module _ (c t : List ℕ) (n : ℕ) (sized : length t ≡ length c) (before : (i : ℕ) → i < n → get_or t i 0 ≡ get_or c i 0) (behind : 260 ≤ n) where

@@ -2,17 +2,18 @@
 #![tactic(auto)]
 
 ghost use Rattle.std.specs.Prelude.{◌≡◌, true, ℕ, ◌+◌, ◌%◌, ◌^◌, ◌<◌, ◌≤◌, length, get_or};
+ghost use Rattle.std.specs.Int.Bits.{bit_and};
 ghost use Rattle.literals.specs.Sets.{has as «has_of», union as «union_of», within as «within_of»};
 ghost use Rattle.literals.specs.Inside.Words.{set_of};
 ghost use Rattle.program.specs.Program.{Program};
 ghost use Rattle.program.specs.Inside.Table.{Shaped, Holds};
 ghost use Rattle.rows.specs.Switched.{NeedsOne};
 ghost use Rattle.live.specs.Live.{LiveRules};
-ghost use Rattle.closures.specs.Inside.Table.{begins_at, keeps_at, Laid, Tells};
+ghost use Rattle.closures.specs.Inside.Table.{begins_at, keeps_at, word_at, Laid, Tells};
 ghost use Rattle.closing.specs.Inside.Plan.{Reach, Pairs, Planned, PlanOf};
 ghost use Rattle.closing.specs.Inside.Steps.{Scattered, Blank, Header, ClashWord, ClashRow};
 
-use literals::LiteralSet;
+use literals::{LiteralSet, masks};
 use program::RuleTable;
 use rows::span;
 
@@ -27,7 +28,7 @@ pub struct Reached {
 }
 
 // Those two sets, the atoms that may clash, by their even literals, where the literals' rows end and that of the contradictory
-// masks begins, and what bears on it.
+// masks begins, and what bears on it. Flat: with `Reached` in it each clause that names a set would be longer.
 #[derive(Clone, Copy)]
 pub struct Ground {
     pub derived: LiteralSet,
@@ -158,14 +159,26 @@ fn clash_row(pairs: LiteralSet, end: u64, span: u64, rows: &mut [u64])
     }
 }
 
-// The masks from 64 w on that derive a literal of a set and the one after it.
+// The masks from 64 w on that derive a literal of a set and the one after it. The two words have a loop each: one loop over the
+// set misses the speed of these where many atoms may clash.
 fn clash_word(rows: &[u64], pairs: LiteralSet, w: u64) -> u64
     requires { (Laid rows.now) × ((l : ℕ) → has_of (set_of pairs) l ≡ true → l < 127) }
     ensures { ClashWord rows.now (set_of pairs) w result }
 {
     let mut x: u64 = 0;
-    for l in pairs {
-        x = x | (closures::word(rows, l, w) & closures::word(rows, l + 1, w));
+    for low in masks::bits(pairs.lo) {
+        x = x | clash_of(rows, low, w);
+    }
+    for high in masks::bits(pairs.hi) {
+        x = x | clash_of(rows, 64 + high, w);
     }
     x
+}
+
+// The masks from 64 w on that derive a literal and the one after it.
+fn clash_of(rows: &[u64], l: u64, w: u64) -> u64
+    requires { (Laid rows.now) × (l < 127) }
+    ensures { result ≡ bit_and (word_at rows.now l w) (word_at rows.now (l + 1) w) }
+{
+    closures::word(rows, l, w) & closures::word(rows, l + 1, w)
 }

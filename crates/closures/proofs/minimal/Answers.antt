@@ -1,7 +1,4 @@
 -- `minimal` meets its contract.
-use native.Mathlib.Omega.{arith}
-use Rattle.literals.proofs.Within.{within_le}
-use Rattle.closures.specs.Inside.Table.{keeps_at}
 use Rattle.closures.proofs.Readings.{minima_kept}
 use Rattle.closures.proofs.minimal.Goals as goal
 

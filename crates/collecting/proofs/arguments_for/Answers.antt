@@ -1,5 +1,4 @@
 -- `arguments_for` meets its contract, a law for each answer.
-use lib.Bits.{and_le_l}
 use Rattle.collecting.proofs.Told.{word_is, word_empty}
 use Rattle.collecting.proofs.arguments_for.Goals as goal
 

@@ -1,5 +1,5 @@
 -- `list` meets its contract: the list that the table tells of is the list of the arguments.
-use mathlib.Core.Path.{◌≡◌, refl}
+use mathlib.Core.Path.{◌≡◌}
 use Rattle.literals.specs.Inside.Words.{set_of}
 use Rattle.program.specs.Program.{Program}
 use Rattle.program.specs.Limits.{Limits}
@@ -8,7 +8,6 @@ use Rattle.listing.proofs.Listings.{listed_over, kept_over, listed_count, writte
 use Rattle.closures.specs.Inside.Table.{Tells}
 use Rattle.collecting.specs.Inside.Columns.{Derivable, list_of}
 use Rattle.collecting.proofs.Lists.{list_told}
-use native.Mathlib.Omega.{arith}
 use Rattle.collecting.proofs.list.Goals as goal
 use Rattle.collecting.proofs.list.Goals.{Start}
 

@@ -6,7 +6,6 @@ use Rattle.literals.proofs.Members.{has_empty}
 use Rattle.closures.specs.Inside.Table.{keeps_at}
 use Rattle.collecting.proofs.Told.{none_beyond}
 use Rattle.collecting.proofs.Puts.{put_none}
-use native.Mathlib.Omega.{arith}
 use Rattle.collecting.proofs.turn_row.Goals as goal
 
 pub returns-then-not-within : goal.returns-then-not-within
