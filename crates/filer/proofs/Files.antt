@@ -5,7 +5,7 @@ use mathlib.Core.List.{List, ◌++◌}
 use Prim.Native.Nat.{ℕ, ◌+◌, ◌<◌, ◌≤◌}
 use native.Mathlib.Omega.{arith}
 use lib.ListN.{length, get_or, take, drop}
-use lib.Seq.{sets, sets-eq, take_at}
+use lib.Seq.{sets, sets-eq, length-take-le}
 use lib.Dec.{ltb}
 use borrow.Author.Tests.{lt-ltb, le-ltb}
 use Rattle.lists.specs.Lists.{inverse}
@@ -77,21 +77,15 @@ module _ (s table numbers : List ℕ) where
     accepted = (file_accepted s (length table) (length numbers) e).0
 
     -- the numbers in their table
-    pub filed_front : (n : ℕ) (after : List ℕ) → n ≡ rules_of s → after ≡ sets numbers 0 (filed_order (program_in s).rules)
-        → (take n after ≡ filed_order (program_in s).rules) × (after ≡ file_numbers s (length table) numbers)
+    pub filed_front : (n : ℕ) (order : List ℕ) → n ≡ rules_of s → order ≡ filed_order (program_in s).rules
+        → order ++ drop n numbers ≡ file_numbers s (length table) numbers
     unfolding old_numbers
-    filed_front n after is f =
-        let k = (file_accepted s (length table) (length numbers) e).2 in
-        let l = numbers_long s accepted in
-        let g : after ≡ front (old_numbers s) numbers = front_of numbers (filed_order (program_in s).rules) after (omega arith) f in (
-          ap (take n) g ∙ take_at (old_numbers s) (drop (length (old_numbers s)) numbers) n (omega arith),
-          g ∙ sym (file_numbers_lem s table numbers e),
-        )
+    filed_front n order is f =
+        ap₂ (λ (l : List ℕ) (k : ℕ). l ++ drop k numbers) f (is ∙ sym (numbers_long s accepted)) ∙ sym (file_numbers_lem s table numbers e)
 
-    pub filed_numbering : (n : ℕ) (order : List ℕ) → n ≡ rules_of s → order ≡ filed_order (program_in s).rules → Numbering n order
+    pub filed_numbering : (order : List ℕ) → order ≡ filed_order (program_in s).rules → Numbering (rules_of s) order
     unfolding old_numbers
-    filed_numbering n order is f =
-        subst (λ (k : ℕ). Numbering k order) (sym is) (subst (Numbering (rules_of s)) (sym f) (old_numbering s accepted))
+    filed_numbering order f = subst (Numbering (rules_of s)) (sym f) (old_numbering s accepted)
 
     pub file_done : (order after : List ℕ) → order ≡ filed_order (program_in s).rules
         → after ≡ sets table 0 (image_of (ordered (program_in s) order))
@@ -121,45 +115,52 @@ module _ (s numbers table : List ℕ) where
       ap (λ (v : Verdict). and_then v (refuse (bad_numbers (rules_of s) (numbers_of s numbers) || not (sorted rule_key (program_in s).rules)) 26 0)) e
 
   module _ (e : file_verdict s (length table) (length numbers) ≡ Accepted) (n : ℕ) (is : n ≡ rules_of s) where
+    abbrev order : List ℕ
+    order = take n numbers
+
     -- by the two tests
-    by_tests : (x y : Bool) → x ≡ not (bad_numbers n (take n numbers)) → y ≡ sorted rule_key (program_in s).rules
+    by_tests : (x y : Bool) → x ≡ not (bad_numbers (length order) order) → y ≡ sorted rule_key (program_in s).rules
         → unfile_verdict s numbers (length table) ≡ refuse (not x || not y) 26 0
     unfolding unfile_verdict
     by_tests x y f g =
+        let as_many : length order ≡ n
+        = length-take-le n numbers (let h = (file_accepted s (length table) (length numbers) e).2 in omega arith) in
         ap₂ and_then e
         (ap₂ (λ (u v : Bool). refuse (u || not v) 26 0)
-        (ap (λ (m : ℕ). bad_numbers m (take m numbers)) (sym is) ∙ double (bad_numbers n (take n numbers)) ∙ ap not (sym f)) (sym g))
+        (ap (λ (m : ℕ). bad_numbers m (take m numbers)) (sym is) ∙ ap (λ (m : ℕ). bad_numbers m order) (sym as_many)
+        ∙ double (bad_numbers (length order) order) ∙ ap not (sym f)) (sym g))
       where
         double : (b : Bool) → b ≡ not (not b)
         double true = refl
         double false = refl
 
-    pub unfile_numbers : false ≡ not (bad_numbers n (take n numbers)) → unfile_verdict s numbers (length table) ≡ Refused 26 0
+    pub unfile_numbers : false ≡ not (bad_numbers (length order) order) → unfile_verdict s numbers (length table) ≡ Refused 26 0
     unfile_numbers f = by_tests false (sorted rule_key (program_in s).rules) f refl
 
     pub unfile_form : false ≡ sorted rule_key (program_in s).rules → unfile_verdict s numbers (length table) ≡ Refused 26 0
-    unfile_form g = go (not (bad_numbers n (take n numbers))) refl
+    unfile_form g = go (not (bad_numbers (length order) order)) refl
       where
-        go : (x : Bool) → x ≡ not (bad_numbers n (take n numbers)) → unfile_verdict s numbers (length table) ≡ Refused 26 0
+        go : (x : Bool) → x ≡ not (bad_numbers (length order) order) → unfile_verdict s numbers (length table) ≡ Refused 26 0
         go true f = by_tests true false f g
         go false f = by_tests false false f g
 
-    pub unfile_both : true ≡ not (bad_numbers n (take n numbers)) → true ≡ sorted rule_key (program_in s).rules
+    pub unfile_both : true ≡ not (bad_numbers (length order) order) → true ≡ sorted rule_key (program_in s).rules
         → unfile_verdict s numbers (length table) ≡ Accepted
     unfile_both f g = by_tests true true f g
 
   -- where nothing is refused, and the table of places holds those of the numbers
   module _ (e : unfile_verdict s numbers (length table) ≡ Accepted) (n : ℕ) (is : n ≡ rules_of s) (places : List ℕ) (room : n ≤ length places)
-      (placed : (i : ℕ) → i < n → get_or places (get_or numbers i 0) 0 ≡ i) where
+      (placed : (i : ℕ) → i < length (take n numbers) → get_or places (get_or (take n numbers) i 0) 0 ≡ i) where
     numbering : Numbering n (take n numbers)
     numbering = subst (λ (k : ℕ). Numbering k (take k numbers)) (sym is) (unfile_accepted s numbers (length table) e).3
 
     order_back : take n places ≡ inverse (take n numbers)
-    order_back =
-        placed_inverse numbers n numbering (let h = (unfile_accepted s numbers (length table) e).2 in omega arith) places room placed
+    order_back = placed_inverse n (take n numbers) numbering places room placed
 
-    pub order_numbering : Numbering n (take n places)
-    order_numbering = subst (Numbering n) (sym order_back) (inverse_numbering n (take n numbers) numbering)
+    pub order_numbering : Numbering (rules_of s) (take n places)
+    order_numbering =
+        subst (λ (k : ℕ). Numbering k (take n places)) is
+        (subst (Numbering n) (sym order_back) (inverse_numbering n (take n numbers) numbering))
 
     pub unfile_done : (after : List ℕ) → after ≡ sets table 0 (image_of (ordered (program_in s) (take n places)))
         → (outcomes.Given (length s) ≡ unfiled_by s numbers (length table)) × (after ≡ unfile_table s numbers table)

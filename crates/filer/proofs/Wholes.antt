@@ -30,34 +30,39 @@ map_bytes : (s : List ℕ) (rules : List Rule) (l : List ℕ) → ((i : ℕ) →
 map_bytes s rules [] h = refl
 map_bytes s rules (i ∷ l) h = ap₂ ◌∷◌ (h i (Memᴰ.head refl)) (map_bytes s rules l (λ j m. h j (Memᴰ.tail m)))
 
-module _ (s : List ℕ) (acc : AcceptedImage s) (n : ℕ) (rules_are : n ≡ rules_of s) (order : List ℕ) (enough : n ≤ length order)
-    (o : Numbering n (take n order)) where
+module _ (s : List ℕ) (acc : AcceptedImage s) (order : List ℕ) (o : Numbering (rules_of s) order) where
+  abbrev n : ℕ
+  n = length order
+
+  rules_are : n ≡ rules_of s
+  rules_are = numbering_length (rules_of s) order o
+
   abbrev moved : Program
-  moved = ordered (program_in s) (take n order)
+  moved = ordered (program_in s) order
 
   abbrev parts : List (List ℕ)
-  parts = parts_by s n order
+  parts = parts_by s order
 
   abbrev last : List ℕ
   last = pair_bytes moved.pairs
 
-  many : length (program_in s).rules ≡ n
-  many = rule_count_lem s (reads s acc) ∙ sym rules_are
+  many : length (program_in s).rules ≡ rules_of s
+  many = rule_count_lem s (reads s acc)
 
-  numbering : Numbering (length (program_in s).rules) (take n order)
-  numbering = subst (λ (m : ℕ). Numbering m (take n order)) (sym many) o
+  numbering : Numbering (length (program_in s).rules) order
+  numbering = subst (λ (m : ℕ). Numbering m order) (sym many) o
 
-  pub numbers : Numbers n order
-  numbers = numbering_table n order o enough
+  pub numbers : Numbers order
+  numbers = numbering_table (rules_of s) order o
 
   pub parts_at : PartsAt s n
   parts_at = (accepted_ruled s acc n rules_are).parts
 
   rules_count : length moved.rules ≡ n
-  rules_count = ordered_length (program_in s) (take n order) numbering (wellformed s acc) ∙ numbering_length n (take n order) o
+  rules_count = ordered_length (program_in s) order numbering (wellformed s acc)
 
   pairs_are : length moved.pairs ≡ pair_count_of s
-  pairs_are = pairs_count (program_in s) (take n order) numbering (writable s acc) ∙ pair_count s (reads s acc)
+  pairs_are = pairs_count (program_in s) order numbering (writable s acc) ∙ pair_count s (reads s acc)
 
   last_length : length last ≡ 2 * pair_count_of s
   last_length = pair_bytes_length moved.pairs ∙ ap (λ (k : ℕ). 2 * k) pairs_are
@@ -66,7 +71,7 @@ module _ (s : List ℕ) (acc : AcceptedImage s) (n : ℕ) (rules_are : n ≡ rul
   unfolding ordered
   parts_are =
       ap (λ (l : List (List ℕ)). l ++ (last ∷ []))
-      (map_bytes s (program_in s).rules (take n order) (λ i m. rule_of s acc i (omega (arith, o.below i m))))
+      (map_bytes s (program_in s).rules order (λ i m. rule_of s acc i (o.below i m)))
 
   together_is : together (parts_of moved) ≡ together parts ++ last
   together_is =
@@ -74,7 +79,7 @@ module _ (s : List ℕ) (acc : AcceptedImage s) (n : ℕ) (rules_are : n ≡ rul
 
   pub total : 12 + 4 * n + (length (together parts) + 2 * pair_count_of s) ≡ length s
   total =
-      omega (arith, rules_count, last_length, ap (λ (l : List ℕ). length l) together_is, length-append (together parts) last, image_length moved, ordered_image_length (program_in s) (take n order) numbering (writable s acc), image_as_long s (reads s acc))
+      omega (arith, rules_count, last_length, ap (λ (l : List ℕ). length l) together_is, length-append (together parts) last, image_length moved, ordered_image_length (program_in s) order numbering (writable s acc), image_as_long s (reads s acc))
 
   pub short : length s ≤ 1836
   short = omega (arith, image_short (program_in s) (writable s acc), image_as_long s (reads s acc))

@@ -1,7 +1,7 @@
 // The writer of the filed form and the way back: crate `filing` has their definitions and what is claimed of them.
 #![tactic(auto)]
 
-ghost use Rattle.std.specs.Prelude.{◌≡◌, ◌≤◌, length, take};
+ghost use Rattle.std.specs.Prelude.{◌≡◌, ◌≤◌, length};
 ghost use Rattle.std.proofs.lemmas.List.Edits.{sets};
 ghost use Rattle.lists.specs.Inside.Numbering.{Numbering};
 ghost use Rattle.layout.specs.Layout.{rules_of};
@@ -27,8 +27,9 @@ pub fn file(image: &[u8], out: &mut [u8], numbers: &mut [u8]) -> Result<u32, Ref
 {
     admit(image, out.len(), numbers.len())?;
     let rules = cursor::number_at(image, 2) as usize;
-    order::fill(image, rules, numbers);
-    write(image, rules, numbers, out);
+    let order = &mut numbers[..rules];
+    order::fill(image, order);
+    write(image, order, out);
     Ok(image.len() as u32)
 }
 
@@ -40,13 +41,13 @@ pub fn unfile(image: &[u8], numbers: &[u8], out: &mut [u8]) -> Result<u32, Refus
     admit(image, out.len(), numbers.len())?;
     let rules = cursor::number_at(image, 2) as usize;
     let mut places = [255u8; 96];
-    if !numbers::invert(numbers, rules, &mut places) {
+    if !numbers::invert(&numbers[..rules], &mut places) {
         return Err(Cause::Misfiled.at(0));
     }
     if !order::ascends(image, rules) {
         return Err(Cause::Misfiled.at(0));
     }
-    write(image, rules, &places, out);
+    write(image, &places[..rules], out);
     Ok(image.len() as u32)
 }
 
@@ -65,14 +66,14 @@ fn admit(image: &[u8], room: usize, entries: usize) -> Result<(), Refusal>
 }
 
 // Writes an accepted image with its rules in another order. What it writes is as long as the image.
-fn write(image: &[u8], rules: usize, numbers: &[u8], out: &mut [u8])
-    requires { (check_image image.now ≡ Accepted) × (rules ≡ rules_of image.now) × (rules ≤ length numbers.now) × (Numbering rules (take rules numbers.now)) × (length image.now ≤ length out.old) }
-    ensures { out.new ≡ sets out.old 0 (image_of (ordered (program_in image.now) (take rules numbers.now))) }
+fn write(image: &[u8], order: &[u8], out: &mut [u8])
+    requires { (check_image image.now ≡ Accepted) × (Numbering (rules_of image.now) order.now) × (length image.now ≤ length out.old) }
+    ensures { out.new ≡ sets out.old 0 (image_of (ordered (program_in image.now) order.now)) }
 {
     let count = cursor::number_at(image, 4) as usize;
     let header = writing::copy(&image[0..8], out, 0);
-    let place = writing::entries(image, rules, numbers, out, header, 12 + 4 * rules);
+    let place = writing::entries(image, order, out, header, 12 + 4 * order.len());
     let directory = writing::entry(place.from, 2 * count, out, place.at);
-    let next = writing::parts(image, rules, numbers, out, directory);
-    pairs::write(image, rules, count, numbers, out, next);
+    let next = writing::parts(image, order, out, directory);
+    pairs::write(image, count, order, out, next);
 }

@@ -50,25 +50,18 @@ pub fn entry(from: usize, size: usize, out: &mut [u8], at: usize) -> usize
 
 // Writes the directory entries of the rules' parts of an image in the order of some numbers, where the first of these parts
 // begins at `start`.
-pub fn entries(
-    image: &[u8],
-    rules: usize,
-    order: &[u8],
-    out: &mut [u8],
-    at: usize,
-    start: usize,
-) -> Place
-    requires parts_at { PartsAt image.now rules }
-    requires numbers { Numbers rules order.now }
-    requires rules_in_bounds { at + 4 * rules ≤ length out.old }
-    requires order_bound { start + length (together (parts_by image.now rules order.now)) < 65536 }
-    ensures written { Written out.old out.new at result.at (directory start (parts_by image.now rules order.now)) }
-    ensures from_value { result.from ≡ start + length (together (parts_by image.now rules order.now)) }
+pub fn entries(image: &[u8], order: &[u8], out: &mut [u8], at: usize, start: usize) -> Place
+    requires parts_at { PartsAt image.now (length order.now) }
+    requires numbers { Numbers order.now }
+    requires rules_in_bounds { at + 4 * length order.now ≤ length out.old }
+    requires order_bound { start + length (together (parts_by image.now order.now)) < 65536 }
+    ensures written { Written out.old out.new at result.at (directory start (parts_by image.now order.now)) }
+    ensures from_value { result.from ≡ start + length (together (parts_by image.now order.now)) }
 {
     let mut next = at;
     let mut from = start;
-    for k in 0..rules {
-        let i = usize::from(order[k]);
+    for number in order {
+        let i = usize::from(*number);
         let span = cursor::locate(image, i);
         let size = span.to - span.from;
         next = entry(from, size, out, next);
@@ -78,17 +71,17 @@ pub fn entries(
 }
 
 // Copies these parts, in the same order.
-pub fn parts(image: &[u8], rules: usize, order: &[u8], out: &mut [u8], at: usize) -> usize
-    requires parts_at { PartsAt image.now rules }
-    requires numbers { Numbers rules order.now }
-    requires order_in_bounds { at + length (together (parts_by image.now rules order.now)) ≤ length out.old }
-    ensures { Written out.old out.new at result (together (parts_by image.now rules order.now)) }
+pub fn parts(image: &[u8], order: &[u8], out: &mut [u8], at: usize) -> usize
+    requires parts_at { PartsAt image.now (length order.now) }
+    requires numbers { Numbers order.now }
+    requires order_in_bounds { at + length (together (parts_by image.now order.now)) ≤ length out.old }
+    ensures { Written out.old out.new at result (together (parts_by image.now order.now)) }
 {
-    let mut next = at;
-    for k in 0..rules {
-        let i = usize::from(order[k]);
+    let mut end = at;
+    for number in order {
+        let i = usize::from(*number);
         let part = cursor::locate(image, i);
-        next = copy(&image[part.from..part.to], out, next);
+        end = copy(&image[part.from..part.to], out, end);
     }
-    next
+    end
 }

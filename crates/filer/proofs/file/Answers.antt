@@ -1,5 +1,6 @@
 -- By what the common part says.
 use mathlib.Core.Path.{sym, ap, ◌∙◌}
+use lib.Seq.{length-take-le}
 use Rattle.std.proofs.lemmas.Result.{err_from_is_err_and}
 use Rattle.calls.specs.Verdicts.{told}
 use Rattle.filing.proofs.Refusals.{file_accepted}
@@ -15,15 +16,22 @@ returns-in_err-admit c = let p = err_from_is_err_and c.from_residual.result c.fr
 pub number_at-rules-requires : goal.number_at-rules-requires
 number_at-rules-requires c = omega (arith, accepted_long _ (file_accepted _ _ _ (sym c.admit.ensures ∙ ap told c.in_ok-admit.was)).0)
 
+pub slice_bounds-order-end : goal.slice_bounds-order-end
+slice_bounds-order-end c = let a = file_accepted _ _ _ (sym c.admit.ensures ∙ ap told c.in_ok-admit.was) in
+    omega (arith, a.2, c.number_at-rules.ensures)
+
+pub slice_bounds-order-end-2 : goal.slice_bounds-order-end-2
+slice_bounds-order-end-2 c = let a = file_accepted _ _ _ (sym c.admit.ensures ∙ ap told c.in_ok-admit.was) in
+    sym (length-take-le _ _ (omega (arith, a.2, c.number_at-rules.ensures)))
+
 pub fill-requires : goal.fill-requires
 fill-requires c = let a = file_accepted _ _ _ (sym c.admit.ensures ∙ ap told c.in_ok-admit.was) in
-    (a.0, c.number_at-rules.ensures, omega (arith, a.2, c.number_at-rules.ensures))
+    (a.0, length-take-le _ _ (omega (arith, a.2, c.number_at-rules.ensures)) ∙ c.number_at-rules.ensures)
 
 pub write-requires : goal.write-requires
 write-requires c = let e = sym c.admit.ensures ∙ ap told c.in_ok-admit.was in
     let a = file_accepted _ _ _ e in
-    let f = filed_front c.args.image.now c.args.out.now c.args.numbers.now e _ _ c.number_at-rules.ensures c.fill.ensures in
-    (a.0, c.number_at-rules.ensures, omega (arith, a.2, c.number_at-rules.ensures), filed_numbering c.args.image.now c.args.out.now c.args.numbers.now e _ _ c.number_at-rules.ensures f.0, a.1)
+    (a.0, filed_numbering c.args.image.now c.args.out.now c.args.numbers.now e _ c.fill.ensures, a.1)
 
 pub overflow_cast-result : goal.overflow_cast-result
 overflow_cast-result c = let a = (file_accepted _ _ _ (sym c.admit.ensures ∙ ap told c.in_ok-admit.was)).0 in
@@ -31,6 +39,5 @@ overflow_cast-result c = let a = (file_accepted _ _ _ (sym c.admit.ensures ∙ a
 
 pub returns : goal.returns
 returns c = let e = sym c.admit.ensures ∙ ap told c.in_ok-admit.was in
-    let f = filed_front c.args.image.now c.args.out.now c.args.numbers.now e _ _ c.number_at-rules.ensures c.fill.ensures in
-    let d = file_done c.args.image.now c.args.out.now c.args.numbers.now e _ _ f.0 c.write.ensures in
-    (d.0, d.1, f.1)
+    let d = file_done c.args.image.now c.args.out.now c.args.numbers.now e _ _ c.fill.ensures c.write.ensures in
+    (d.0, d.1, filed_front c.args.image.now c.args.out.now c.args.numbers.now e _ _ c.number_at-rules.ensures c.fill.ensures)

@@ -2,6 +2,7 @@
 use mathlib.Core.Path.{sym, ap, ◌∙◌}
 use Prim.Native.Nat.{◌≤◌}
 use lib.ListN.{get_or-replicate}
+use lib.Seq.{length-take-le}
 use Rattle.std.proofs.lemmas.Result.{err_from_is_err_and}
 use Rattle.calls.specs.Verdicts.{told}
 use Rattle.filing.proofs.Refusals.{file_accepted}
@@ -22,7 +23,22 @@ number_at-rules-requires c = omega (arith, accepted_long _ (file_accepted _ _ _ 
 pub invert-requires : goal.invert-requires
 invert-requires c = let a = file_accepted _ _ _ (sym c.admit.ensures ∙ ap told c.in_ok-admit.was) in
     let few : c.number_at-rules.result ≤ 96 = omega (arith, (accepted_few _ a.0).0, c.number_at-rules.ensures) in
-    (omega (arith, a.2, c.number_at-rules.ensures), search rules, omega arith, λ k h. get_or-replicate 96 k 255 0 (omega arith))
+    let long = length-take-le c.number_at-rules.result c.args.numbers.now (omega (arith, a.2, c.number_at-rules.ensures)) in
+    (omega arith, omega arith, λ k h. get_or-replicate 96 k 255 0 (omega arith))
+
+pub slice_bounds-invert-end : goal.slice_bounds-invert-end
+slice_bounds-invert-end c = let a = file_accepted _ _ _ (sym c.admit.ensures ∙ ap told c.in_ok-admit.was) in
+    sym (length-take-le _ _ (omega (arith, a.2, c.number_at-rules.ensures)))
+
+pub slice_bounds-places-end : goal.slice_bounds-places-end
+slice_bounds-places-end c = let a = file_accepted _ _ _ (sym c.admit.ensures ∙ ap told c.in_ok-admit.was) in
+    let few : c.number_at-rules.result ≤ 96 = omega (arith, (accepted_few _ a.0).0, c.number_at-rules.ensures) in
+    search rules
+
+pub slice_bounds-write-end : goal.slice_bounds-write-end
+slice_bounds-write-end c = let a = file_accepted _ _ _ (sym c.admit.ensures ∙ ap told c.in_ok-admit.was) in
+    let few : c.number_at-rules.result ≤ 96 = omega (arith, (accepted_few _ a.0).0, c.number_at-rules.ensures) in
+    sym (length-take-le _ _ (search rules))
 
 pub returns-then-not-invert : goal.returns-then-not-invert
 returns-then-not-invert c = let e = sym c.admit.ensures ∙ ap told c.in_ok-admit.was in
@@ -41,7 +57,7 @@ write-requires c = let e = sym c.admit.ensures ∙ ap told c.in_ok-admit.was in
     let few : c.number_at-rules.result ≤ 96 = omega (arith, (accepted_few _ a.0).0, c.number_at-rules.ensures) in
     let fine = c.if-not-invert.false in
     let v = unfile_both c.args.image.now c.args.numbers.now c.args.out.now e _ c.number_at-rules.ensures (sym fine ∙ c.invert.ensures.0) (sym c.if-not-ascends.false ∙ c.ascends.ensures) in
-    (a.0, c.number_at-rules.ensures, search rules, order_numbering c.args.image.now c.args.numbers.now c.args.out.now v _ c.number_at-rules.ensures _ (search rules) (c.invert.ensures.1 fine), a.1)
+    (a.0, order_numbering c.args.image.now c.args.numbers.now c.args.out.now v _ c.number_at-rules.ensures _ (search rules) (c.invert.ensures.1 fine), a.1)
 
 pub overflow_cast-result : goal.overflow_cast-result
 overflow_cast-result c = let e = sym c.admit.ensures ∙ ap told c.in_ok-admit.was in

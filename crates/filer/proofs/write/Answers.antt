@@ -15,71 +15,69 @@ eight : (s : List ℕ) → 8 ≤ length s → length (take 8 (drop 0 s)) ≡ 8
 eight s h = length-take-le 8 s h
 
 pub number_at-count-requires : goal.number_at-count-requires
-number_at-count-requires c = omega (arith, total _ c.requires.0 _ c.requires.1 _ c.requires.2 c.requires.3)
+number_at-count-requires c = omega (arith, total _ c.requires.0 _ c.requires.1)
 
 pub slice_bounds-copy-end : goal.slice_bounds-copy-end
-slice_bounds-copy-end c = omega (arith, total _ c.requires.0 _ c.requires.1 _ c.requires.2 c.requires.3)
+slice_bounds-copy-end c = omega (arith, total _ c.requires.0 _ c.requires.1)
 
 pub copy-header-requires : goal.copy-header-requires
-copy-header-requires c = let t = total _ c.requires.0 _ c.requires.1 _ c.requires.2 c.requires.3 in
+copy-header-requires c = let t = total _ c.requires.0 _ c.requires.1 in
     let h = length-take-le 8 c.args.image.now (omega (arith, t)) in
-    omega (arith, t, h, c.requires.4)
+    omega (arith, t, h, c.requires.2)
 
-pub overflow_mul-rules : goal.overflow_mul-rules
-overflow_mul-rules c = omega (arith, total _ c.requires.0 _ c.requires.1 _ c.requires.2 c.requires.3, short _ c.requires.0 _ c.requires.1 _ c.requires.2 c.requires.3)
+pub overflow_mul-order : goal.overflow_mul-order
+overflow_mul-order c = omega (arith, total _ c.requires.0 _ c.requires.1, short _ c.requires.0 _ c.requires.1)
 
-pub overflow_add-rules : goal.overflow_add-rules
-overflow_add-rules c = omega (arith, total _ c.requires.0 _ c.requires.1 _ c.requires.2 c.requires.3, short _ c.requires.0 _ c.requires.1 _ c.requires.2 c.requires.3)
+pub overflow_add-order : goal.overflow_add-order
+overflow_add-order c = omega (arith, total _ c.requires.0 _ c.requires.1, short _ c.requires.0 _ c.requires.1)
 
 pub entries-place-requires : goal.entries-place-requires
-entries-place-requires c = let t = total _ c.requires.0 _ c.requires.1 _ c.requires.2 c.requires.3 in
+entries-place-requires c = let t = total _ c.requires.0 _ c.requires.1 in
     let h = eight c.args.image.now (omega (arith, t)) in
     let l = written_length _ _ _ _ _ c.copy-header.ensures in record {
-      parts_at = parts_at _ c.requires.0 _ c.requires.1 _ c.requires.2 c.requires.3;
-      numbers = numbers _ c.requires.0 _ c.requires.1 _ c.requires.2 c.requires.3;
-      rules_in_bounds = omega (arith, t, h, l, c.copy-header.ensures.next_is, c.requires.4);
-      order_bound = omega (arith, t, short _ c.requires.0 _ c.requires.1 _ c.requires.2 c.requires.3);
+      parts_at = parts_at _ c.requires.0 _ c.requires.1;
+      numbers = numbers _ c.requires.0 _ c.requires.1;
+      rules_in_bounds = omega (arith, t, h, l, c.copy-header.ensures.next_is, c.requires.2);
+      order_bound = omega (arith, t, short _ c.requires.0 _ c.requires.1);
     }
 
 pub entry-directory-requires : goal.entry-directory-requires
-entry-directory-requires c = let t = total _ c.requires.0 _ c.requires.1 _ c.requires.2 c.requires.3 in
-    let few = short _ c.requires.0 _ c.requires.1 _ c.requires.2 c.requires.3 in
+entry-directory-requires c = let t = total _ c.requires.0 _ c.requires.1 in
+    let few = short _ c.requires.0 _ c.requires.1 in
     let h = eight c.args.image.now (omega (arith, t)) in
     let l = written_length _ _ _ _ _ c.copy-header.ensures in
     let m = written_length _ _ _ _ _ c.entries-place.ensures.written in
-    let d = entries_length c.args.image.now c.args.rules c.args.numbers.now (numbers _ c.requires.0 _ c.requires.1 _ c.requires.2 c.requires.3) (12 + 4 * c.args.rules) in record {
+    let d = entries_length c.args.image.now c.args.order.now (12 + 4 * length c.args.order.now) in record {
       from_bound = omega (arith, t, few, c.entries-place.ensures.from_value);
       size_bound = omega (arith, t, few, c.number_at-count.ensures);
-      at_in_bounds = omega (arith, t, h, l, m, d, c.copy-header.ensures.next_is, c.entries-place.ensures.written.next_is, c.requires.4);
+      at_in_bounds = omega (arith, t, h, l, m, d, c.copy-header.ensures.next_is, c.entries-place.ensures.written.next_is, c.requires.2);
     }
 
 pub parts-next-requires : goal.parts-next-requires
-parts-next-requires c = let t = total _ c.requires.0 _ c.requires.1 _ c.requires.2 c.requires.3 in
+parts-next-requires c = let t = total _ c.requires.0 _ c.requires.1 in
     let h = eight c.args.image.now (omega (arith, t)) in
     let l = written_length _ _ _ _ _ c.copy-header.ensures in
     let m = written_length _ _ _ _ _ c.entries-place.ensures.written in
     let k = written_length _ _ _ _ _ c.entry-directory.ensures in
-    let d = entries_length c.args.image.now c.args.rules c.args.numbers.now (numbers _ c.requires.0 _ c.requires.1 _ c.requires.2 c.requires.3) (12 + 4 * c.args.rules) in record {
-      parts_at = parts_at _ c.requires.0 _ c.requires.1 _ c.requires.2 c.requires.3;
-      numbers = numbers _ c.requires.0 _ c.requires.1 _ c.requires.2 c.requires.3;
-      order_in_bounds = omega (arith, t, h, l, m, k, d, c.copy-header.ensures.next_is, c.entries-place.ensures.written.next_is, c.entry-directory.ensures.next_is, c.requires.4);
+    let d = entries_length c.args.image.now c.args.order.now (12 + 4 * length c.args.order.now) in record {
+      parts_at = parts_at _ c.requires.0 _ c.requires.1;
+      numbers = numbers _ c.requires.0 _ c.requires.1;
+      order_in_bounds = omega (arith, t, h, l, m, k, d, c.copy-header.ensures.next_is, c.entries-place.ensures.written.next_is, c.entry-directory.ensures.next_is, c.requires.2);
     }
 
 pub write-requires : goal.write-requires
-write-requires c = let t = total _ c.requires.0 _ c.requires.1 _ c.requires.2 c.requires.3 in
+write-requires c = let t = total _ c.requires.0 _ c.requires.1 in
     let h = eight c.args.image.now (omega (arith, t)) in
     let l = written_length _ _ _ _ _ c.copy-header.ensures in
     let m = written_length _ _ _ _ _ c.entries-place.ensures.written in
     let k = written_length _ _ _ _ _ c.entry-directory.ensures in
     let j = written_length _ _ _ _ _ c.parts-next.ensures in
-    let d = entries_length c.args.image.now c.args.rules c.args.numbers.now (numbers _ c.requires.0 _ c.requires.1 _ c.requires.2 c.requires.3) (12 + 4 * c.args.rules) in (
+    let d = entries_length c.args.image.now c.args.order.now (12 + 4 * length c.args.order.now) in (
       c.requires.0,
-      c.requires.1,
       c.number_at-count.ensures,
-      c.requires.2,
-      c.requires.3,
-      omega (arith, t, h, l, m, k, j, d, c.copy-header.ensures.next_is, c.entries-place.ensures.written.next_is, c.entry-directory.ensures.next_is, c.parts-next.ensures.next_is, c.number_at-count.ensures, c.requires.4),
+      c.requires.1,
+      omega (arith, t, h, l, m, k, j, d, c.copy-header.ensures.next_is, c.entries-place.ensures.written.next_is, c.entry-directory.ensures.next_is, c.parts-next.ensures.next_is, c.number_at-count.ensures, c.requires.2),
     )
 
 pub returns : goal.returns
-returns c = pieces_written _ c.requires.0 _ c.requires.1 _ c.requires.2 c.requires.3 (λ i. omega (arith, c.shared_slice_known-1.given i)) _ c.number_at-count.ensures _ _ _ _ _ _ _ _ _ _ _ c.copy-header.ensures c.entries-place.ensures.written c.entries-place.ensures.from_value c.entry-directory.ensures c.parts-next.ensures c.write.ensures
+returns c = pieces_written _ c.requires.0 _ c.requires.1 (λ i. omega (arith, c.type_inv.image i)) _ c.number_at-count.ensures _ _ _ _ _ _ _ _ _ _ _ c.copy-header.ensures c.entries-place.ensures.written c.entries-place.ensures.from_value c.entry-directory.ensures c.parts-next.ensures c.write.ensures

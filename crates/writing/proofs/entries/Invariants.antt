@@ -2,5 +2,5 @@
 use Rattle.writing.proofs.Outputs.{Entering}
 use Rattle.writing.proofs.entries.Given as goal
 
-abbrev pub invariant-loop-k : goal.invariant-loop-k
-invariant-loop-k l = Entering l.image l.rules l.order l.initial.out l.out l.at l.next l.start l.from l.k
+abbrev pub invariant-loop-number : goal.invariant-loop-number
+invariant-loop-number l = Entering l.image l.order l.initial.out l.out l.at l.next l.start l.from l.number-index

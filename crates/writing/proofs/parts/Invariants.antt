@@ -5,5 +5,5 @@ use Rattle.writing.specs.Inside.Steps.{parts_by}
 use Rattle.writing.proofs.Outputs.{parts_from}
 use Rattle.writing.proofs.parts.Given as goal
 
-abbrev pub invariant-loop-k : goal.invariant-loop-k
-invariant-loop-k l = Writing l.initial.out l.out l.at l.next (together (parts_by l.image l.rules l.order)) (together (parts_from l.image l.rules l.order l.k))
+abbrev pub invariant-loop-number : goal.invariant-loop-number
+invariant-loop-number l = Writing l.initial.out l.out l.at l.end (together (parts_by l.image l.order)) (together (parts_from l.image l.order l.number-index))

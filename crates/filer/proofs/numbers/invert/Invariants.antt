@@ -1,6 +1,6 @@
--- The first numbers are below the count and have their places; no other has one.
+-- The first numbers are below how many there are and have their places; no other has one.
 use Rattle.filer.proofs.Renumberings.{Placing}
 use Rattle.filer.proofs.numbers.invert.Given as goal
 
 abbrev pub invariant-loop-i : goal.invariant-loop-i
-invariant-loop-i l = Placing l.numbers l.initial.places l.places l.count l.i
+invariant-loop-i l = Placing l.numbers l.initial.places l.places l.i
