@@ -44,15 +44,6 @@ accepted = Ok tt
 abbrev pub refused : {A : Type 0} → Cause → ℕ → Result A Refusal
 refused cause place = Err (record { cause = cause; place = place })
 
--- the number of the cause that a result names, and the cause's place: of one that names none, neither
-abbrev pub cause_of : {A : Type 0} → Result A Refusal → ℕ
-cause_of (Ok a) = 0
-cause_of (Err r) = number_of r.cause
-
-abbrev pub place_of : {A : Type 0} → Result A Refusal → ℕ
-place_of (Ok a) = 0
-place_of (Err r) = r.place
-
 -- a cause with its place, where it applies
 abbrev pub refuse : Bool → Cause → ℕ → Verdict
 refuse true cause place = refused cause place
