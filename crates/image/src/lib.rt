@@ -19,7 +19,7 @@ use program::{RuleTable, chain};
 // Chains of pairs and the counts, which come last.
 fn finish(table: &mut RuleTable, counts: Counts, bits: u64)
     requires { bits ≤ 16 }
-    ensures { (p : Program) → Limits p → length table.old ≡ 419 → bits ≡ defeasibles p.rules → counts.atoms ≡ p.atoms → counts.rules ≡ length p.rules → counts.pairs ≡ length p.pairs → ListedIn p table.old → Holds p table.new }
+    ensures { (p : Program) → Limits p → bits ≡ defeasibles p.rules → counts.atoms ≡ p.atoms → counts.rules ≡ length p.rules → counts.pairs ≡ length p.pairs → ListedIn p table.old → Holds p table.new }
 {
     chain::all(table, bits, counts.pairs);
     program::store_counts(table, counts.rules as u64, bits, counts.atoms as u64);
@@ -27,7 +27,6 @@ fn finish(table: &mut RuleTable, counts: Counts, bits: u64)
 
 // Reads an image into the rule table, or says why not: then the table may be half filled.
 pub fn read(image: &[u8], table: &mut RuleTable) -> Result<(), Refusal>
-    requires { length table.old ≡ 419 }
     ensures { (result ≡ verdict image.now) × (verdict image.now ≡ accepted → Holds (program_in image.now) table.new) }
 {
     let (counts, next) = header::read(image)?;

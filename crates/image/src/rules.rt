@@ -60,7 +60,7 @@ fn link(links: &mut Links, head: u64, i: u64)
 // Puts a rule into row i, with the bit if it is defeasible. Hands back the next rule's bit.
 fn store(table: &mut RuleTable, i: u64, rule: Rule, bit: u64) -> u64
     requires { (i < 96) × (rule.defeasible ≡ true → bit < 16) × (bit ≤ 16) }
-    ensures { (result ≡ choose rule.defeasible (bit + 1) bit) × (length table.new ≡ length table.old) × ((q : ProgramRule) → length table.old ≡ 419 → RuleIs q rule.defeasible rule.head (set_of rule.body) → Stored q i bit table.old table.new) }
+    ensures { (result ≡ choose rule.defeasible (bit + 1) bit) × ((q : ProgramRule) → RuleIs q rule.defeasible rule.head (set_of rule.body) → Stored q i bit table.old table.new) }
 {
     if rule.defeasible {
         program::store_row(table, i, rule.head, rule.body, 1u64 << bit);
@@ -103,7 +103,7 @@ pub fn read(
     counts: Counts,
     start: Cursor,
 ) -> Result<(u64, usize), Refusal>
-    requires { (length table.old ≡ 419) × (length links.old ≡ 224) × ((k : ℕ) → k < 224 → get_or links.old k 0 ≡ 0) × (counts.atoms ≡ atoms_of image.now) × (counts.atoms ≤ 64) × (counts.rules ≡ rules_of image.now) × (counts.rules ≤ 96) × (start.at ≡ 8) }
+    requires { ((k : ℕ) → k < 224 → get_or links.old k 0 ≡ 0) × (counts.atoms ≡ atoms_of image.now) × (counts.atoms ≤ 64) × (counts.rules ≡ rules_of image.now) × (counts.rules ≤ 96) × (start.at ≡ 8) }
     ensures { RulesRead result image.now table.new }
 {
     let atoms = counts.atoms as u64;

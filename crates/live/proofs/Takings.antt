@@ -137,10 +137,10 @@ module _ (t : List ℕ) (d s i h b c : ℕ) (x y : Bool) (head_is : h ≡ head_a
 pub turn_ends : (t : List ℕ) (d s awaited n taken : ℕ) (u : List ℕ) (i h need : ℕ) (body : LiteralSet) → i < 96 → i < rule_count t
     → has taken i ≡ false → live_at t d s i ≡ true → h ≡ head_at t i → need ≡ need_at t i → set_of body ≡ minus (body_at t i) d
     → Taken t d s n taken u → (v : List ℕ) → v ≡ with_row u n h body need → (after : ℕ) → after ≡ insert taken i
-    → (length v ≡ length u) × Taken t d s (n + 1) after v × (TakenTo t d s awaited i taken → TakenTo t d s awaited (i + 1) after)
+    → Taken t d s (n + 1) after v × (TakenTo t d s awaited i taken → TakenTo t d s awaited (i + 1) after)
 turn_ends t d s awaited n taken u i h need body small listed fresh live eh en eb p v ev after ea =
     rw (ev, ea)
-    (row_length u n h body need, taken_more t d s n taken u i h need body small listed fresh live eh en eb p, turn_takes t d s awaited i taken)
+    (taken_more t d s n taken u i h need body small listed fresh live eh en eb p, turn_takes t d s awaited i taken)
 
 -- all are taken, and the count is stored
 pub taken_all : (t : List ℕ) (d s awaited n taken : ℕ) (u : List ℕ) → awaited ≡ 0 → TakenTo t d s awaited (rule_count t) taken → Taken t d s n taken u

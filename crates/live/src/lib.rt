@@ -2,7 +2,7 @@
 // from their bodies, bodies before heads where possible.
 #![tactic(auto)]
 
-ghost use Rattle.std.specs.Prelude.{◌≡◌, ◌+◌, ◌<◌, length};
+ghost use Rattle.std.specs.Prelude.{◌≡◌, ◌+◌, ◌<◌};
 ghost use Rattle.literals.specs.Inside.Words.{set_of};
 ghost use Rattle.program.specs.Inside.Table.{rule_count, Shaped};
 ghost use Rattle.live.specs.Live.{LiveRules};
@@ -28,7 +28,7 @@ pub fn live_rules(
     live: &mut RuleTable,
 )
     requires { Shaped table.now }
-    ensures { length live.old ≡ 419 → LiveRules table.now (set_of derived) (set_of literals) live.new }
+    ensures { LiveRules table.now (set_of derived) (set_of literals) live.new }
 {
     let mut taken = Progress {
         n: 0,
@@ -57,7 +57,6 @@ fn pass(
 ) -> Progress
     requires shaped { Shaped table.now }
     requires taken { Taken table.now (set_of derived) (set_of literals) from.n (set_of from.taken) live.old }
-    ensures live_len_unchanged { length live.new ≡ length live.old }
     ensures taken_2 { Taken table.now (set_of derived) (set_of literals) result.n (set_of result.taken) live.new }
     ensures taken_to { TakenTo table.now (set_of derived) (set_of literals) (set_of from.waiting) (rule_count table.now) (set_of result.taken) }
 {
@@ -85,7 +84,6 @@ fn turn(
     requires shaped { Shaped table.now }
     requires i_bound { i < rule_count table.now }
     requires taken { Taken table.now (set_of derived) (set_of literals) p.n (set_of p.taken) live.old }
-    ensures live_len_unchanged { length live.new ≡ length live.old }
     ensures taken_2 { Taken table.now (set_of derived) (set_of literals) result.n (set_of result.taken) live.new }
     ensures taken_to { TakenTo table.now (set_of derived) (set_of literals) (set_of awaited) i (set_of p.taken)
         → TakenTo table.now (set_of derived) (set_of literals) (set_of awaited) (i + 1) (set_of result.taken) }

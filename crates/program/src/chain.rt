@@ -10,7 +10,7 @@ use literals::masks;
 // Each rule that beats the one with bit k takes over what that one beats.
 fn hand_on(table: &mut RuleTable, bits: u64, k: u64)
     requires { (bits ≤ 16) × (k < bits) }
-    ensures { (length table.new ≡ length table.old) × (length table.old ≡ 419 → HandedOn k bits table.old table.new) }
+    ensures { HandedOn k bits table.old table.new }
 {
     let handed = beaten(table, k);
     if handed == 0 {
@@ -28,7 +28,7 @@ fn hand_on(table: &mut RuleTable, bits: u64, k: u64)
 // turn. Where no pair is listed there is nothing to do.
 pub fn all(table: &mut RuleTable, bits: u64, pairs: usize)
     requires { bits ≤ 16 }
-    ensures { (length table.new ≡ length table.old) × ((p : Program) → Limits p → length table.old ≡ 419 → bits ≡ defeasibles p.rules → pairs ≡ length p.pairs → ListedIn p table.old → Chained p table.new) }
+    ensures { (p : Program) → Limits p → bits ≡ defeasibles p.rules → pairs ≡ length p.pairs → ListedIn p table.old → Chained p table.new }
 {
     if pairs == 0 {
         return;

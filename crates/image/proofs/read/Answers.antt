@@ -3,7 +3,6 @@ use mathlib.Core.Path.{◌≡◌, refl, sym, ◌∙◌}
 use mathlib.Core.List.{List}
 use Prim.Native.Nat.{ℕ}
 use lib.ListN.{length, get_or-replicate}
-use borrow.Author.Rules.{rules}
 use Rattle.std.specs.Prelude.{Err}
 use Rattle.std.proofs.lemmas.Result.{err_from_is_err_and}
 use Rattle.program.specs.Program.{Program, defeasibles}
@@ -43,7 +42,7 @@ returns-in_err-counts c = let e = err_from_is_err_and c.from_residual.result c.f
 
 pub read-requires-2 : goal.read-requires-2
 read-requires-2 c = let k = header_known c.args.image.now _ _ (sym c.in_ok-counts.ensures) in
-    (c.requires, search rules, λ i h. get_or-replicate 224 i 0 0 h, k.atoms_are, k.few_atoms, k.rules_are, k.few_rules, k.here)
+    (λ i h. get_or-replicate 224 i 0 0 h, k.atoms_are, k.few_atoms, k.rules_are, k.few_rules, k.here)
 
 pub returns-in_err-bits : goal.returns-in_err-bits
 returns-in_err-bits c = let k = header_known c.args.image.now _ _ (sym c.in_ok-counts.ensures) in
@@ -66,4 +65,4 @@ returns c = let s = c.args.image.now in
     let k = header_known s _ _ (sym c.in_ok-counts.ensures) in
     let r = c.in_ok-bits.ensures in
     let a = rules_accept s _ _ k r.directory r.accepts ∙ sym c.read-3.ensures.0 ∙ c.in_ok-read.was in
-    (sym a, λ e. c.finish.ensures (program_in s) (accepted_limits s a) c.read-3.ensures.1 (bits_of s _ r.bits_are) (k.atoms_are ∙ atoms-of s) (k.rules_are ∙ rules-of s) (k.pairs_are ∙ pairs_of s) (c.read-3.ensures.2 c.in_ok-read.was))
+    (sym a, λ e. c.finish.ensures (program_in s) (accepted_limits s a) (bits_of s _ r.bits_are) (k.atoms_are ∙ atoms-of s) (k.rules_are ∙ rules-of s) (k.pairs_are ∙ pairs_of s) (c.read-3.ensures.1 c.in_ok-read.was))

@@ -1,9 +1,7 @@
 -- `live_rules` meets its contract: the last pass takes all that are left.
-use mathlib.Core.Path.{◌≡◌}
-use lib.ListN.{length}
 use Rattle.literals.specs.Inside.Words.{set_of}
 use Rattle.live.specs.Steps.{Taken}
 use Rattle.live.proofs.live_rules.Given as goal
 
 abbrev pub invariant-loop : goal.invariant-loop
-invariant-loop l = (length l.live ≡ length l.initial.live) × Taken l.table (set_of l.derived) (set_of l.literals) l.taken.n (set_of l.taken.taken) l.live
+invariant-loop l = Taken l.table (set_of l.derived) (set_of l.literals) l.taken.n (set_of l.taken.taken) l.live

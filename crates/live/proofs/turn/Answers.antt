@@ -1,8 +1,7 @@
 -- `turn` meets its contract, a law for each answer.
 use mathlib.Core.Bool.{not}
-use mathlib.Core.Path.{◌≡◌, sym, ap, ◌∙◌}
+use mathlib.Core.Path.{sym, ap, ◌∙◌}
 use Prim.Native.Nat.{◌+◌}
-use lib.ListN.{length}
 use Rattle.live.specs.Steps.{Taken, TakenTo}
 use native.Mathlib.Omega.{arith}
 use Rattle.literals.specs.Inside.Words.{set_of}
@@ -15,8 +14,7 @@ store_row-requires c = taken_room c.args.table.now (set_of c.args.derived) (set_
 
 -- the rule is taken
 module _ (c : After-insert-2) where
-  ended : (length c.store_row.new.table ≡ length c.args.live.now)
-      × Taken c.args.table.now (set_of c.args.derived) (set_of c.args.literals) (c.args.p.n + 1) (set_of c.insert-2.result) c.store_row.new.table
+  ended : Taken c.args.table.now (set_of c.args.derived) (set_of c.args.literals) (c.args.p.n + 1) (set_of c.insert-2.result) c.store_row.new.table
       × (TakenTo c.args.table.now (set_of c.args.derived) (set_of c.args.literals) (set_of c.args.awaited) c.args.i (set_of c.args.p.taken)
       → TakenTo c.args.table.now (set_of c.args.derived) (set_of c.args.literals) (set_of c.args.awaited) (c.args.i + 1) (set_of c.insert-2.result))
   ended =
@@ -28,7 +26,7 @@ module _ (c : After-insert-2) where
       c.requires.taken _ c.store_row.ensures _ c.insert-2.ensures
 
 pub returns-clause-taken_2 : goal.returns-clause-taken_2
-returns-clause-taken_2 c = (ended (goal.at.returns-clause-taken_2 c).After-insert-2).1
+returns-clause-taken_2 c = (ended (goal.at.returns-clause-taken_2 c).After-insert-2).0
 
 pub returns-clause-taken_to : goal.returns-clause-taken_to
-returns-clause-taken_to c = (ended (goal.at.returns-clause-taken_to c).After-insert-2).2
+returns-clause-taken_to c = (ended (goal.at.returns-clause-taken_to c).After-insert-2).1

@@ -1,4 +1,4 @@
-use mathlib.Core.Path.{◌≡◌, ap, ◌∙◌}
+use mathlib.Core.Path.{◌≡◌, sym, ap, ◌∙◌}
 use mathlib.Core.List.{List}
 use Prim.Native.Nat.{ℕ, ◌+◌, ◌<◌}
 use native.Mathlib.Decide.{ℕ_discrete}
@@ -21,7 +21,6 @@ kept t u b w e h = ap (λ (l : List ℕ). get_or l w 0) e ∙ get_or-set_other t
 
 pub loop-b-preserved : goal.loop-b-preserved
 loop-b-preserved c = let l = c.loop-b in (
-  ap (λ (q : List ℕ). length q) c.store_beaten.ensures ∙ length-set l.table _ _ ∙ l.invariant.0,
-  λ z k h. next l.table _ l.b (l.invariant.0 ∙ z) (omega arith) c.store_beaten.ensures (l.invariant.1 z) k h,
-  λ w h. kept l.table _ l.b w c.store_beaten.ensures h ∙ l.invariant.2 w h,
+  λ k h. next l.table _ l.b (sym (length-set l.table _ _) ∙ ap length (sym c.store_beaten.ensures) ∙ c.store_beaten.array_long) (omega arith) c.store_beaten.ensures l.invariant.0 k h,
+  λ w h. kept l.table _ l.b w c.store_beaten.ensures h ∙ l.invariant.1 w h,
 )

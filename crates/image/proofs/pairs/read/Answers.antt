@@ -10,7 +10,7 @@ use Rattle.image.proofs.pairs.read.Goals as goal
 
 pub loop-first-init : goal.loop-first-init
 loop-first-init c = let base = base_of c.args.image.now _ _ c.args.from _ _ c.requires.0.1 c.requires.1 c.requires.2 c.requires.3 in
-    pairing_start c.args.image.now _ _ _ base _ _ _ c.start-cursor.ensures (c.clear.ensures.0 ∙ c.requires.0.1.long) c.requires.0.1.rows (c.clear.ensures.1 c.requires.0.1.long) c.clear.ensures.2
+    pairing_start c.args.image.now _ _ _ base _ _ _ c.start-cursor.ensures c.clear.array_long c.requires.0.1.rows c.clear.ensures.0 c.clear.ensures.1
 
 pub returns-in_err-examine : goal.returns-in_err-examine
 returns-in_err-examine c = let s = c.args.image.now in
@@ -19,7 +19,7 @@ returns-in_err-examine c = let s = c.args.image.now in
     let v = sym (tested s _ _ _ base _ c.loop-first.least c.loop-first.place _ c.loop-first.invariant _ _ _ now) ∙ sym c.examine.ensures ∙ c.in_err-examine.was in
     let all = pairing_refused s _ _ _ base _ c.loop-first.least c.loop-first.place _ c.loop-first.invariant _ _ _ now _ v in
     let e = err_from_is_err_and c.from_residual.result c.from_residual.ensures.1 in
-    rw (e.1, e.2) (sym (after_eleven s false _ (pairs_sized s _ _ base.size base.count_is c.if-pairs-counts.false) ∙ all), c.loop-first.invariant.long, λ q. cc)
+    rw (e.1, e.2) (sym (after_eleven s false _ (pairs_sized s _ _ base.size base.count_is c.if-pairs-counts.false) ∙ all), λ q. cc)
 
 pub beat-requires : goal.beat-requires
 beat-requires c = let s = c.args.image.now in
@@ -45,4 +45,4 @@ returns c = let s = c.args.image.now in
     let at = c.loop-first.invariant.here in
     let over = pair_ended _ _ (sym c.pair.ensures ∙ c.in_default.is) in
     let done = pairing_done s _ _ _ base _ c.loop-first.least c.loop-first.place _ c.loop-first.invariant (omega (arith, over, c.if-pairs-counts.false, c.requires.3)) in
-    (sym (after_eleven s false _ (pairs_sized s _ _ base.size base.count_is c.if-pairs-counts.false) ∙ done.0), c.loop-first.invariant.long, λ e. done.1)
+    (sym (after_eleven s false _ (pairs_sized s _ _ base.size base.count_is c.if-pairs-counts.false) ∙ done.0), λ e. done.1)

@@ -1,5 +1,5 @@
 -- `rule` meets its contract: the part, then cause 10, then the table.
-use mathlib.Core.Path.{◌∙◌}
+use mathlib.Core.Path.{sym, ◌∙◌}
 use mathlib.Core.Bool.{true}
 use Rattle.std.proofs.lemmas.Result.{err_from_is_err_and}
 use Rattle.layout.specs.Layout.{part_of}
@@ -35,4 +35,4 @@ pub returns : goal.returns
 returns c = let s = c.args.image.now in
     let f = found s c.args.i c.args.bits c.args.table.now c.args.links.now c.requires.0 c.requires.3 c.requires.4 _ _ c.args.atoms (located_part _ _ _ _ c.requires.1) c.requires.5 c.requires.6 c.in_ok-rule.ensures in
     next_read s c.args.i c.args.bits c.args.table.now c.args.links.now c.requires.0 c.requires.3 c.requires.4 _ f _ _ _ c.repeated.ensures c.if-repeated.false
-    c.store.ensures.1 c.store.ensures.0 (c.store.ensures.2 (rule_in (part_of s c.args.i)) c.requires.0.long f.is) _ c.link.ensures
+    (c.store.array_long ∙ sym c.requires.0.long) c.store.ensures.0 (c.store.ensures.1 (rule_in (part_of s c.args.i)) f.is) _ c.link.ensures
