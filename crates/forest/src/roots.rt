@@ -54,7 +54,7 @@ fn trees(
         if literal_of(*argument) == literal {
             let root = Step {
                 index,
-                kind: 0,
+                kind: None,
                 depth: 0,
                 own: 0,
                 other: 0,

@@ -1,9 +1,11 @@
 // A step's node: its place on the line, its entry in the tables, and its mark.
 ghost use Rattle.std.specs.Prelude.{◌≡◌, ◌<◌};
+ghost use Rattle.defeat.specs.Inside.Kinds.{number_of_kind};
 ghost use Rattle.tree.specs.Inside.Tables.{opened};
 ghost use Rattle.tree.specs.Inside.Steps.{settled_by, answered, Enters, Entered};
 
 use crate::candidates::Reply;
+use defeat::kinds::Kind;
 
 // A forest: one table of numbers for each field of the nodes' entries, each as long as the largest budget.
 #[derive(Drop)]
@@ -14,12 +16,12 @@ pub struct Columns {
     pub marks: [u8; 4096],
 }
 
-// A step on a line: an argument, by its index in the argument list, that replies to the line's last one. `own` and `other` are
-// the masks of the step's own side on the line and of the other side; `at` is its node's number.
+// A step on a line: an argument, by its index in the argument list, that replies to the line's last one, or is a root, with
+// no kind. `own` and `other` are the masks of the step's own side on the line and of the other side; `at` is its node's number.
 #[derive(Clone, Copy)]
 pub struct Step {
     pub index: usize,
-    pub kind: u8,
+    pub kind: Option<Kind>,
     pub depth: usize,
     pub own: u64,
     pub other: u64,
@@ -35,7 +37,7 @@ impl Step {
     {
         Step {
             index: reply.index,
-            kind: reply.kind,
+            kind: Some(reply.kind),
             depth: self.depth + 1,
             own: self.other,
             other: joined,
@@ -60,5 +62,5 @@ pub fn enter(line: &mut [u32], columns: &mut Columns, step: Step, argument: u32)
     line[step.depth] = argument;
     columns.indexes[step.at] = step.index as u32;
     columns.parents[step.at] = step.parent as u32;
-    columns.kinds[step.at] = step.kind;
+    columns.kinds[step.at] = step.kind.map_or(0, |kind| kind as u8);
 }
