@@ -13,6 +13,8 @@ use Rattle.defeat.specs.OfProgram.{tests_of}
 use Rattle.tree.specs.declared.candidates.Framework.{Framework}
 use Rattle.tree.specs.declared.candidates.Reply.{Reply}
 use Rattle.tree.specs.declared.nodes.Columns.{Columns}
+use Rattle.tree.specs.declared.nodes.Mark.{Mark}
+use Rattle.tree.specs.declared.nodes.Mark.TheVariants.{Undefeated, Defeated}
 use Rattle.tree.specs.declared.nodes.Step.{Step}
 use Rattle.tree.specs.Reply.{mine, theirs, reply_kind, last_kind}
 use Rattle.tree.specs.Forest.{none, tree, replies}
@@ -32,6 +34,11 @@ masks_of (x ∷ l) = union (masks_of l) (mask_of x)
 -- the entries of the tree of x after a line, from number `at` on
 unfoldable pub tree_entries : Tests ℕ → List ℕ → (x kind at parent : ℕ) → List Entry
 tree_entries t l x kind at parent = preorder (index_in t.arguments) at parent (tree x kind (replies t (x ∷ l)) none)
+
+-- a mark in the engine, as document 01's number: "mark 1 U, 2 D"
+abbrev pub number_of_mark : Mark → ℕ
+number_of_mark Undefeated = 1
+number_of_mark Defeated = 2
 
 -- a node's mark after one reply more: "An inner node is U exactly when every child is D, else D."
 abbrev pub settled_by : (mark reply : ℕ) → ℕ
