@@ -7,14 +7,12 @@ use native.Mathlib.Nat.{le_trans}
 use native.Mathlib.Omega.{arith}
 use lib.Dec.{ltb}
 use borrow.Author.Tests.{lt-ltb, le-ltb}
-use lib.ListN.{length, take, drop, replicate, length-replicate}
-use lib.Seq.{take-length}
+use lib.ListN.{length, drop, replicate, length-replicate}
 use Rattle.std.specs.Prelude.{Option, Some, None, MatchOption}
 use Rattle.std.specs.Option.{ForSome}
 use Rattle.program.specs.Program.{Program}
 use Rattle.program.specs.Inside.Table.{Holds}
 use Rattle.derivation.specs.Derivation.{complement}
-use Rattle.argument.specs.List.{argument_list}
 use Rattle.excluded.specs.Inside.Exclusions.{Excluded, Conclusions}
 use Rattle.tree.specs.declared.candidates.Framework.{Framework}
 use Rattle.tree.specs.declared.nodes.Columns.{Columns}
@@ -36,11 +34,8 @@ use Rattle.answer.proofs.Answers.{entries_count}
 -- ---- the tables that the forest is built from
 
 module _ (f : Framework) (w : Held f.table.now) (l : Listing w f.rows.now f.arguments.now) (u : ℕ)
-    (c : Conclusions u (take (length f.arguments.now) f.arguments.now))
+    (c : Conclusions u f.arguments.now)
     (e : (p : Program) → Holds p f.table.now → Excluded p.rules u f.exclusions.now) where
-  pub listed : take (length f.arguments.now) f.arguments.now ≡ argument_list w.program.rules
-  listed = take-length f.arguments.now ∙ l.listed
-
   abbrev pub prepared : Prepared f
   prepared = record {
     program = w.program;
@@ -50,8 +45,8 @@ module _ (f : Framework) (w : Held f.table.now) (l : Listing w f.rows.now f.argu
       holds = w.holds;
       told = l.told;
       excluded = e w.program w.holds;
-      conclusions = subst (Conclusions u) listed c;
-      listed = listed;
+      conclusions = subst (Conclusions u) l.listed c;
+      listed = l.listed;
     };
     laid = l.laid;
   }

@@ -86,7 +86,7 @@ fn grow(
         (λ g. ForestBuilt (tests w.program) literal budget g.nodes g.won g.lost columns.old columns.new) }
 {
     let mut exclusions = [0u64; 256];
-    let conclusions = excluded::conclusions(arguments, arguments.len());
+    let conclusions = excluded::conclusions(arguments);
     let derived = derivation::close(table, 0, LiteralSet::empty());
     excluded::fill(table, derived, conclusions, &mut exclusions);
     let mut line = [0u32; 4096];

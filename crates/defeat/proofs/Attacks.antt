@@ -106,8 +106,8 @@ module _ (p : Program) (limits : Limits p) where
 
 -- ---- by the two tables
 
-module _ {p : Program} {u : ℕ} {table rows exclusions arguments : List ℕ} {count : ℕ}
-    (ready : Ready p u table rows exclusions arguments count) (x y : ℕ)
+module _ {p : Program} {u : ℕ} {table rows exclusions arguments : List ℕ}
+    (ready : Ready p u table rows exclusions arguments) (x y : ℕ)
     (lx : Memᴰ x (argument_list p.rules)) (ly : Memᴰ y (argument_list p.rules)) where
   abbrev list : List ℕ
   list = argument_list p.rules

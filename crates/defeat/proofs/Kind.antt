@@ -8,6 +8,9 @@ use lib.Dec.{T, eqb}
 use Rattle.defeat.specs.Frame.{Frame}
 use Rattle.defeat.specs.Defeat.{ProperDefeater, BlockingDefeater, Defeater}
 use Rattle.defeat.specs.Tests.{Tests, proper, neither, blocking, kind, kind_of}
+use Rattle.defeat.specs.declared.kinds.Kind.{Kind}
+use Rattle.defeat.specs.declared.kinds.Kind.TheVariants.{Proper, Blocking}
+use Rattle.defeat.specs.Inside.Kinds.{number_of}
 use Rattle.defeat.proofs.Renders.{Renders}
 use Rattle.defeat.proofs.Defeat.{proper_renders, blocking_renders}
 
@@ -61,6 +64,12 @@ module _ {A : Type 0} (t : Tests A) (x y : A) where
   pub kind_two_test : eqb (kind t x y) 2 ≡ blocking t x y
   unfolding kind blocking
   kind_two_test = two_test (proper t x y) (neither t x y)
+
+-- ---- of the engine's kind
+
+pub number_some : (k : Kind) → number_of k ≢ 0
+number_some Proper e = absurd (omega (arith, e))
+number_some Blocking e = absurd (omega (arith, e))
 
 -- ---- as published
 

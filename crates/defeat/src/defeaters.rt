@@ -1,5 +1,5 @@
 // Whether one argument attacks another, and its kind as a defeater, by the table of rows and the exclusion table.
-ghost use Rattle.std.specs.Prelude.{◌≡◌, ℕ, ◌^◌, ◌<◌, take};
+ghost use Rattle.std.specs.Prelude.{◌≡◌, ℕ, ◌^◌, ◌<◌};
 ghost use mathlib.Core.List.{List, Memᴰ};
 ghost use Rattle.literals.specs.Inside.Words.{set_of};
 ghost use Rattle.program.specs.Program.{Program};
@@ -12,8 +12,10 @@ ghost use Rattle.defeat.specs.Tests.{kind as «kind_by»};
 ghost use Rattle.defeat.specs.OfProgram.{tests_of};
 ghost use Rattle.preference.specs.Preference.{preferred_test};
 ghost use Rattle.defeat.specs.Inside.Exclusions.{Numbers, Ready};
+ghost use Rattle.defeat.specs.Inside.Kinds.{number_of_kind};
 ghost use Rattle.defeat.specs.Inside.Steps.{AttacksBy, attacked_by, kind_among};
 
+use crate::kinds::Kind;
 use argument::numbers;
 use literals::{LiteralSet, masks};
 use program::RuleTable;
@@ -32,31 +34,29 @@ pub fn attacks(rows: &[u64], exclusions: &[u64; 256], x: u32, y: u32) -> bool
     false
 }
 
-// The kind of x as a defeater of y: 1 proper, 2 blocking, 0 none. An argument with an empty mask attacks nothing. It
-// walks the list, so ask `attacks` first.
+// The kind of x as a defeater of y, or None. An argument with an empty mask attacks nothing. It walks the list, so ask
+// `attacks` first.
 pub fn kind(
     table: &RuleTable,
     exclusions: &[u64; 256],
     arguments: &[u32],
-    count: usize,
     x: u32,
     y: u32,
-) -> u8
-    requires numbers { Numbers arguments.now count }
+) -> Option<Kind>
+    requires numbers { Numbers arguments.now }
     requires x_bound { (x < 2 ^ 23) × (y < 2 ^ 23) }
     ensures { (p : Program) (u : ℕ) (rows : List ℕ)
-        → Ready p u table.now rows exclusions.now arguments.now count
+        → Ready p u table.now rows exclusions.now arguments.now
         → Memᴰ x (argument_list p.rules) → Memᴰ y (argument_list p.rules)
-        → result ≡ kind_by (tests_of p (preferred_test p)) x y }
+        → number_of_kind result ≡ kind_by (tests_of p (preferred_test p)) x y }
 {
     if x < 128 {
-        return 0;
+        return None;
     }
     let row = excluded::entry(exclusions, numbers::literal_of(x));
     weigh(
         table,
         arguments,
-        count,
         row,
         numbers::mask_of(x),
         numbers::mask_of(y),
@@ -65,23 +65,16 @@ pub fn kind(
 
 // The kind of an argument with the mask x as a defeater of one with the mask y, where its literal excludes those of a set.
 // The list ascends, so that after the masks up to y no sub-argument follows.
-fn weigh(
-    table: &RuleTable,
-    arguments: &[u32],
-    count: usize,
-    excluded: LiteralSet,
-    x: u64,
-    y: u64,
-) -> u8
-    requires numbers { Numbers arguments.now count }
+fn weigh(table: &RuleTable, arguments: &[u32], excluded: LiteralSet, x: u64, y: u64) -> Option<Kind>
+    requires numbers { Numbers arguments.now }
     requires x_bound { (x < 2 ^ 16) × (y < 2 ^ 16) }
     ensures { (p : Program) → Limits p → Holds p table.now → Mask p x
-        → take count arguments.now ≡ argument_list p.rules
-        → result ≡ kind_among (attacked_by (set_of excluded) y) (λ z. preferred_test p x (mask_of z))
+        → arguments.now ≡ argument_list p.rules
+        → number_of_kind result ≡ kind_among (attacked_by (set_of excluded) y) (λ z. preferred_test p x (mask_of z))
         (λ z. preferred_test p (mask_of z) x) (argument_list p.rules) }
 {
-    let mut found: u8 = 0;
-    for z in &arguments[..count] {
+    let mut found = None;
+    for z in arguments {
         let mask = numbers::mask_of(*z);
         if y < mask {
             return found;
@@ -90,10 +83,10 @@ fn weigh(
             continue;
         }
         if preference::preferred(table, x, mask) {
-            return 1;
+            return Some(Kind::Proper);
         }
         if !preference::preferred(table, mask, x) {
-            found = 2;
+            found = Some(Kind::Blocking);
         }
     }
     found

@@ -2,3 +2,4 @@
 #![tactic(auto)]
 
 pub mod defeaters;
+pub mod kinds;

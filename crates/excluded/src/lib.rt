@@ -1,7 +1,7 @@
 // The exclusion table: for each literal of a set, those of the set that exclude it.
 #![tactic(auto)]
 
-ghost use Rattle.std.specs.Prelude.{◌≡◌, ◌+◌, ◌*◌, ◌<◌, ◌≤◌, length, take, set};
+ghost use Rattle.std.specs.Prelude.{◌≡◌, ◌+◌, ◌*◌, ◌<◌, ◌≤◌, length, set};
 ghost use Rattle.literals.specs.Inside.Words.{set_of};
 ghost use Rattle.program.specs.Program.{Program, Π};
 ghost use Rattle.program.specs.Inside.Table.{Holds, Shaped};
@@ -38,12 +38,11 @@ impl LaidRules<'_> {
 }
 
 // The literals of the listed arguments whose mask is not empty.
-pub fn conclusions(arguments: &[u32], count: usize) -> LiteralSet
-    requires { count ≤ length arguments.now }
-    ensures { Conclusions (set_of result) (take count arguments.now) }
+pub fn conclusions(arguments: &[u32]) -> LiteralSet
+    ensures { Conclusions (set_of result) arguments.now }
 {
     let mut found = LiteralSet::empty();
-    for x in &arguments[..count] {
+    for x in arguments {
         if *x >= 128 {
             found = found.insert(numbers::literal_of(*x));
         }

@@ -7,7 +7,7 @@ ghost use Rattle.tree.specs.Inside.Roots.{RootsReady, TreesBuilt, ForestBuilt, T
 
 use argument::numbers::literal_of;
 use tree::candidates::Framework;
-use tree::nodes::{Columns, Step};
+use tree::nodes::{Columns, Mark, Step};
 use turns::supporter;
 
 // The next free node number, and whether some root is marked U.
@@ -54,7 +54,7 @@ fn trees(
         if literal_of(*argument) == literal {
             let root = Step {
                 index,
-                kind: 0,
+                kind: None,
                 depth: 0,
                 own: 0,
                 other: 0,
@@ -62,7 +62,7 @@ fn trees(
                 at: next,
             };
             let end = supporter(framework, line, root, limit, columns)?;
-            undefeated |= columns.marks[next] == 1;
+            undefeated |= columns.marks[next] == Mark::Undefeated as u8;
             next = end;
         }
     }

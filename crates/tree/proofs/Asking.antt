@@ -4,7 +4,6 @@ use mathlib.Core.Bool.{Bool, true, false, not, ◌||◌}
 use mathlib.Core.List.{List, ◌∷◌, Memᴰ}
 use Prim.Native.Nat.{ℕ, ◌+◌, ◌^◌, ◌<◌}
 use native.Mathlib.Numerals.{add-one}
-use native.Mathlib.Omega.{arith}
 use lib.ListN.{length, get_or}
 use lib.Dec.{eqb}
 use Rattle.lists.specs.Lists.{any}
@@ -16,6 +15,7 @@ use Rattle.defeat.specs.Tests.{kind}
 use Rattle.preference.specs.Preference.{preferred_test}
 use Rattle.defeat.specs.OfProgram.{tests_of}
 use Rattle.defeat.specs.Inside.Exclusions.{Numbers}
+use Rattle.defeat.specs.Inside.Kinds.{number_of_kind}
 use Rattle.defeat.specs.Inside.Steps.{AttacksBy}
 use Rattle.defeat.proofs.Attacks.{kind_apart}
 use Rattle.tree.specs.declared.nodes.Step.{Step}
@@ -58,11 +58,8 @@ module _ {f : Framework} {line : List ℕ} {s : Step} (A : Asked f line s) (j : 
   side_in z (Memᴰ.tail i) = A.on_line z (rw line_is ((sides_within (y ∷ l)).1 z i))
 
   -- what the tests of attack and defeat ask
-  pub asking_numbers : Numbers f.arguments.now (length f.arguments.now)
-  asking_numbers = record {
-    enough = omega arith;
-    small = λ i h. prepared_small A.prepared (get_or f.arguments.now i 0) (get_d_in f.arguments.now i h);
-  }
+  pub asking_numbers : Numbers f.arguments.now
+  asking_numbers i h = prepared_small A.prepared (get_or f.arguments.now i 0) (get_d_in f.arguments.now i h)
 
   pub asking_x : x < 2 ^ 23
   asking_x = prepared_small A.prepared x x_in
@@ -110,7 +107,7 @@ module _ {f : Framework} {line : List ℕ} {s : Step} (A : Asked f line s) (j : 
 
         pub asking_free : clashes ≡ false → met ≡ false → (k r : ℕ)
             → (Memᴰ x all → Memᴰ y all → k ≡ kind (tests_in w) x y)
-            → r ≡ permit k (not (eqb s.kind 2) || eqb k 1) → r ≡ reply_kind (tests_in w) (line_of line (s.depth + 1)) x
+            → r ≡ permit k (not (eqb (number_of_kind s.kind) 2) || eqb k 1) → r ≡ reply_kind (tests_in w) (line_of line (s.depth + 1)) x
         asking_free c u k r k-is r-is =
             r-is
             ∙ ap (λ (n : ℕ). permit k (not (eqb n 2) || eqb k 1)) (A.last_is w)

@@ -1,11 +1,10 @@
 -- What the tables that a call lends down say of the argument list: each argument once, at its index.
-use mathlib.Core.Path.{◌≡◌, sym, ap, ◌∙◌, subst}
+use mathlib.Core.Path.{◌≡◌, sym, ap, subst}
 use mathlib.Core.List.{List, Memᴰ}
 use Prim.Native.Nat.{ℕ, ◌*◌, ◌^◌, ◌≤◌, ◌<◌}
 use native.Mathlib.Omega.{arith}
 use native.Mathlib.Nat.{pow-le-pow_right}
 use lib.ListN.{length, get_or}
-use lib.Seq.{take-length}
 use Rattle.lists.specs.Lists.{index_in}
 use Rattle.lists.proofs.Orders.{ascending_distinct, ascends_high}
 use Rattle.lists.proofs.Places.{index_of}
@@ -28,7 +27,7 @@ module _ {f : Framework} (w : Prepared f) where
   l = argument_list w.program.rules
 
   pub prepared_list : f.arguments.now ≡ l
-  prepared_list = sym (take-length f.arguments.now) ∙ w.made.listed
+  prepared_list = w.made.listed
 
   few : 2 ^ defeasibles w.program.rules ≤ 2 ^ 16
   few = pow-le-pow_right {n = 2} (omega arith) {i = defeasibles w.program.rules} {j = 16} w.made.limits.defeasibles_limit

@@ -7,6 +7,7 @@ use Prim.Native.Nat.{ℕ, ◌+◌, ◌≤◌, ◌<◌}
 use native.Mathlib.Omega.{arith}
 use lib.ListN.{length, get_or}
 use lib.Dec.{eqb}
+use Rattle.std.specs.Prelude.{None}
 use Rattle.lists.proofs.Lists.{within_nil}
 use Rattle.argument.specs.Argument.{literal_of}
 use Rattle.tree.specs.declared.candidates.Framework.{Framework}
@@ -42,7 +43,7 @@ root_turn_start h {at = at} {limit = limit} {t = t} r m = record {
 
 -- a root's step: no line is before it, and its parent is its own number
 abbrev pub root_step : (index at : ℕ) → Step
-root_step index at = record { index = index; kind = 0; depth = 0; own = 0; other = 0; parent = at; at = at }
+root_step index at = record { index = index; kind = None; depth = 0; own = 0; other = 0; parent = at; at = at }
 
 module _ {f : Framework} {h : ℕ} {line₀ : List ℕ} {at limit : ℕ} {t₀ : Columns}
     {line : List ℕ} {t : Columns} {found : Bool} {next start : ℕ}

@@ -9,6 +9,7 @@ use lib.Seq.{get_or-set_same, get_or-set_other}
 use Rattle.lists.specs.Lists.{Within}
 use Rattle.literals.specs.Sets.{union}
 use Rattle.argument.specs.Argument.{mask_of}
+use Rattle.defeat.proofs.Kind.{number_some}
 use Rattle.tree.specs.declared.candidates.Framework.{Framework}
 use Rattle.tree.specs.declared.candidates.Reply.{Reply}
 use Rattle.tree.specs.declared.nodes.Step.{Step}
@@ -77,7 +78,7 @@ module _ {f : Framework} {before : List ℕ} {s : Step} {limit : ℕ} (ready : R
     kind_is = λ w.
         first.kind_is w
         ∙ reply_last (tests_in w) (line_of line (s.depth + 1)) (get_or f.arguments.now r.index 0)
-        (λ z. first.is_reply (first.kind_is w ∙ z));
+        (λ z. number_some r.kind (first.kind_is w ∙ z));
     in_list = first.in_list;
     parent_in = omega arith;
     deep = let d = ready.deep in omega arith;

@@ -8,6 +8,8 @@ use Rattle.lists.specs.Lists.{index_in}
 use Rattle.literals.specs.Sets.{union}
 use Rattle.argument.specs.Argument.{mask_of}
 use Rattle.defeat.specs.Tests.{Tests}
+use Rattle.defeat.specs.Inside.Kinds.{number_of, number_of_kind}
+use Rattle.defeat.proofs.Kind.{number_some}
 use Rattle.tree.specs.declared.candidates.Framework.{Framework}
 use Rattle.tree.specs.declared.candidates.Reply.{Reply}
 use Rattle.tree.specs.declared.nodes.Columns.{Columns}
@@ -40,7 +42,7 @@ pub record Turn (f : Framework) (line₀ : List ℕ) (s : Step) (limit : ℕ) (t
   pub high : next ≤ limit
   pub start_in : start ≤ length f.arguments.now
   pub going : (w : Prepared f)
-      → Going (tests_in w) (argument_of f s ∷ line_of line₀ s.depth) s.at limit (opened s.at s.index s.parent s.kind t₀) start next
+      → Going (tests_in w) (argument_of f s ∷ line_of line₀ s.depth) s.at limit (opened s.at s.index s.parent (number_of_kind s.kind) t₀) start next
       mark t
 
 -- ---- a step begins
@@ -49,9 +51,9 @@ module _ {f : Framework} {line : List ℕ} {s : Step} {limit : ℕ} (ready : Rea
   -- no number is left
   pub turn_none : limit ≤ s.at → (t : Columns)
       → ((w : Prepared f)
-      → Over (tree_entries (tests_in w) (line_of line s.depth) (argument_of f s) s.kind s.at s.parent) s.at limit t t)
+      → Over (tree_entries (tests_in w) (line_of line s.depth) (argument_of f s) (number_of_kind s.kind) s.at s.parent) s.at limit t t)
   turn_none h t w =
-      tree_none (tests_in w) (prepared_listing w) (line_of line s.depth) s.index s.parent s.kind s.at limit ready.in_list t h
+      tree_none (tests_in w) (prepared_listing w) (line_of line s.depth) s.index s.parent (number_of_kind s.kind) s.at limit ready.in_list t h
 
   module _ (room : s.at < limit) where
     line_room : s.depth < length line
@@ -80,7 +82,7 @@ module _ {f : Framework} {line : List ℕ} {s : Step} {limit : ℕ} (ready : Rea
       start_in = omega arith;
       going = λ w. rw (e.tables_are)
           (going_start (tests_in w) (prepared_listing w) (argument_of f s ∷ line_of line s.depth) s.at limit
-          (opened s.at s.index s.parent s.kind t) room);
+          (opened s.at s.index s.parent (number_of_kind s.kind) t) room);
     }
 
 -- ---- a step goes on
@@ -92,7 +94,7 @@ module _ {f : Framework} {line₀ : List ℕ} {s : Step} {limit : ℕ} {t₀ : C
 
   -- the tables with the node's entry
   abbrev o : Columns
-  o = opened s.at s.index s.parent s.kind t₀
+  o = opened s.at s.index s.parent (number_of_kind s.kind) t₀
 
   -- the line up to the parent stays
   turn_line : (line' : List ℕ) → line_of line' (s.depth + 1) ≡ line_of line (s.depth + 1) → line_of line' s.depth ≡ line_of line₀ s.depth
@@ -109,12 +111,12 @@ module _ {f : Framework} {line₀ : List ℕ} {s : Step} {limit : ℕ} {t₀ : C
 
   -- no candidate is left, and the node is marked
   pub turn_end : NoReply f line s start (length f.arguments.now) → (w : Prepared f)
-      → Fits (tree_entries (tests_in w) (line_of line₀ s.depth) (argument_of f s) s.kind s.at s.parent) s.at limit next t₀ (closed s.at mark t)
+      → Fits (tree_entries (tests_in w) (line_of line₀ s.depth) (argument_of f s) (number_of_kind s.kind) s.at s.parent) s.at limit next t₀ (closed s.at mark t)
   turn_end none w =
       let b = going_end (tests_in w) (prepared_listing w) l s.at limit o
       (going_pass (tests_in w) (prepared_listing w) l s.at limit o (length f.arguments.now) (T.going w) T.start_in (omega arith)
       (rw T.line_is at (none w))) (omega arith) in
-      tree_end (tests_in w) (prepared_listing w) (line_of line₀ s.depth) s.index s.parent s.kind s.at limit T.ready.in_list t₀ b.0 b.1
+      tree_end (tests_in w) (prepared_listing w) (line_of line₀ s.depth) s.index s.parent (number_of_kind s.kind) s.at limit T.ready.in_list t₀ b.0 b.1
 
   module _ {r : Reply} (first : FirstReply f line s start r) where
     -- the candidates that are left are fewer
@@ -134,7 +136,7 @@ module _ {f : Framework} {line₀ : List ℕ} {s : Step} {limit : ℕ} {t₀ : C
         going_pass (tests_in w) (prepared_listing w) l s.at limit o r.index (T.going w) first.low (omega (arith, first.in_list))
         (rw T.line_is at (first.none_before w))
 
-    kind_on : (w : Prepared f) → r.kind ≡ reply_kind (tests_in w) l (get_or f.arguments.now r.index 0)
+    kind_on : (w : Prepared f) → number_of r.kind ≡ reply_kind (tests_in w) l (get_or f.arguments.now r.index 0)
     kind_on w = rw T.line_is at (first.kind_is w)
 
     -- the other side's step is done
@@ -145,26 +147,26 @@ module _ {f : Framework} {line₀ : List ℕ} {s : Step} {limit : ℕ} {t₀ : C
     module _ {t' : Columns} where
       -- a reply's tree does not fit
       pub turn_over : ((w : Prepared f)
-          → Over (tree_entries (tests_in w) (line_of line (s.depth + 1)) (get_or f.arguments.now r.index 0) r.kind next s.at) next limit t t')
+          → Over (tree_entries (tests_in w) (line_of line (s.depth + 1)) (get_or f.arguments.now r.index 0) (number_of r.kind) next s.at) next limit t t')
           → (w : Prepared f)
-          → Over (tree_entries (tests_in w) (line_of line₀ s.depth) (argument_of f s) s.kind s.at s.parent) s.at limit t₀ t'
+          → Over (tree_entries (tests_in w) (line_of line₀ s.depth) (argument_of f s) (number_of_kind s.kind) s.at s.parent) s.at limit t₀ t'
       turn_over over w =
-          tree_over (tests_in w) (prepared_listing w) (line_of line₀ s.depth) s.index s.parent s.kind s.at limit T.ready.in_list t₀
-          (going_over (tests_in w) (prepared_listing w) l s.at limit o (passed w) first.in_list r.kind (kind_on w) first.is_reply
+          tree_over (tests_in w) (prepared_listing w) (line_of line₀ s.depth) s.index s.parent (number_of_kind s.kind) s.at limit T.ready.in_list t₀
+          (going_over (tests_in w) (prepared_listing w) l s.at limit o (passed w) first.in_list (number_of r.kind) (kind_on w) (number_some r.kind)
           (rw T.line_is at (over w)))
           T.room
 
       -- a reply's tree is written
       module _ {end : ℕ}
           (below : (w : Prepared f)
-          → Fits (tree_entries (tests_in w) (line_of line (s.depth + 1)) (get_or f.arguments.now r.index 0) r.kind next s.at) next limit end t t') where
-        fits_on : (w : Prepared f) → Fits (tree_entries (tests_in w) l (get_or f.arguments.now r.index 0) r.kind next s.at) next limit end t t'
+          → Fits (tree_entries (tests_in w) (line_of line (s.depth + 1)) (get_or f.arguments.now r.index 0) (number_of r.kind) next s.at) next limit end t t') where
+        fits_on : (w : Prepared f) → Fits (tree_entries (tests_in w) l (get_or f.arguments.now r.index 0) (number_of r.kind) next s.at) next limit end t t'
         fits_on w = rw T.line_is at (below w)
 
         -- and has a number
         turn_room : next < end
         turn_room =
-            let w = T.ready.prepared in tree_room (tests_in w) l (get_or f.arguments.now r.index 0) r.kind next s.at (fits_on w)
+            let w = T.ready.prepared in tree_room (tests_in w) l (get_or f.arguments.now r.index 0) (number_of r.kind) next s.at (fits_on w)
 
         turn_high : end ≤ limit
         turn_high = (below T.ready.prepared).within
@@ -187,6 +189,6 @@ module _ {f : Framework} {line₀ : List ℕ} {s : Step} {limit : ℕ} {t₀ : C
           high = turn_high;
           start_in = omega (arith, first.in_list);
           going = λ w. rw em
-              (going_step (tests_in w) (prepared_listing w) l s.at limit o (passed w) first.in_list r.kind (kind_on w) first.is_reply
+              (going_step (tests_in w) (prepared_listing w) l s.at limit o (passed w) first.in_list (number_of r.kind) (kind_on w) (number_some r.kind)
               (fits_on w) T.marks_hold);
         }

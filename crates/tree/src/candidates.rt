@@ -3,12 +3,14 @@ ghost use Rattle.std.specs.Prelude.{◌≡◌, ◌+◌, not, ◌||◌, ◌≤◌
 ghost use Rattle.lists.specs.Lists.{any};
 ghost use Rattle.literals.specs.Sets.{within};
 ghost use Rattle.argument.specs.Argument.{mask_of};
+ghost use Rattle.defeat.specs.Inside.Kinds.{number_of, number_of_kind};
 ghost use Rattle.tree.specs.Reply.{permit, reply_kind};
 ghost use Rattle.tree.specs.Inside.Steps.{line_of, Prepared, tests_in, Asked, NoReply, FirstReply};
 
 use crate::nodes::Step;
 use argument::numbers::mask_of;
 use defeat::defeaters;
+use defeat::kinds::Kind;
 use literals::masks;
 use program::RuleTable;
 
@@ -26,7 +28,7 @@ pub struct Framework<'t> {
 #[derive(Clone, Copy)]
 pub struct Reply {
     pub index: usize,
-    pub kind: u8,
+    pub kind: Kind,
 }
 
 // An argument with this mask would be a sub-argument of one on the line.
@@ -43,43 +45,42 @@ fn used(line: &[u32], depth: usize, mask: u64) -> bool
 }
 
 // The kind of a defeater after one of kind `last`: directly after a blocking one stands only a proper one.
-fn follow(last: u8, kind: u8) -> u8
-    ensures { result ≡ permit kind (not (eqb last 2) || eqb kind 1) }
+fn follow(last: Option<Kind>, kind: Kind) -> Option<Kind>
+    ensures { number_of_kind result ≡ permit (number_of kind) (not (eqb (number_of_kind last) 2) || eqb (number_of kind) 1) }
 {
-    if last != 2 {
-        return kind;
+    match (last, kind) {
+        (Some(Kind::Blocking), Kind::Blocking) => None,
+        _ => Some(kind),
     }
-    if kind == 1 { 1 } else { 0 }
 }
 
-// The kind of candidate j as a reply to a step, whose argument is the line's last one; 0 where it is none. Most candidates
+// The kind of candidate j as a reply to a step, whose argument is the line's last one, or None. Most candidates
 // attack nothing there, which is the cheapest to see, so that test comes first.
-fn reply_kind(framework: &Framework<'_>, line: &[u32], step: Step, j: usize) -> u8
+fn reply_kind(framework: &Framework<'_>, line: &[u32], step: Step, j: usize) -> Option<Kind>
     requires asked { Asked framework.now line.now step }
     requires j_in_list { j < length framework.now.arguments.now }
     ensures { (w : Prepared framework.now)
-        → result ≡ reply_kind (tests_in w) (line_of line.now (step.depth + 1)) (get_or framework.now.arguments.now j 0) }
+        → number_of_kind result ≡ reply_kind (tests_in w) (line_of line.now (step.depth + 1)) (get_or framework.now.arguments.now j 0) }
 {
     let x = framework.arguments[j];
     let y = line[step.depth];
     if !defeaters::attacks(framework.rows, framework.exclusions, x, y) {
-        return 0;
+        return None;
     }
     let mask = mask_of(x);
     if closures::contradictory(framework.rows, step.other | mask) {
-        return 0;
+        return None;
     }
     if used(line, step.depth + 1, mask) {
-        return 0;
+        return None;
     }
     let kind = defeaters::kind(
         framework.table,
         framework.exclusions,
         framework.arguments,
-        framework.arguments.len(),
         x,
         y,
-    );
+    )?;
     follow(step.kind, kind)
 }
 
@@ -96,8 +97,7 @@ pub fn first_reply(
         (λ r. FirstReply framework.now line.now step start r) }
 {
     for index in start..framework.arguments.len() {
-        let kind = reply_kind(framework, line, step, index);
-        if kind != 0 {
+        if let Some(kind) = reply_kind(framework, line, step, index) {
             return Some(Reply { index, kind });
         }
     }

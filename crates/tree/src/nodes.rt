@@ -1,9 +1,11 @@
 // A step's node: its place on the line, its entry in the tables, and its mark.
 ghost use Rattle.std.specs.Prelude.{◌≡◌, ◌<◌};
+ghost use Rattle.defeat.specs.Inside.Kinds.{number_of_kind};
 ghost use Rattle.tree.specs.Inside.Tables.{opened};
-ghost use Rattle.tree.specs.Inside.Steps.{settled_by, answered, Enters, Entered};
+ghost use Rattle.tree.specs.Inside.Steps.{number_of_mark, settled_by, answered, Enters, Entered};
 
 use crate::candidates::Reply;
+use defeat::kinds::Kind;
 
 // A forest: one table of numbers for each field of the nodes' entries, each as long as the largest budget.
 #[derive(Drop)]
@@ -14,12 +16,12 @@ pub struct Columns {
     pub marks: [u8; 4096],
 }
 
-// A step on a line: an argument, by its index in the argument list, that replies to the line's last one. `own` and `other` are
-// the masks of the step's own side on the line and of the other side; `at` is its node's number.
+// A step on a line: an argument, by its index in the argument list, that replies to the line's last one, or is a root, with
+// no kind. `own` and `other` are the masks of the step's own side on the line and of the other side; `at` is its node's number.
 #[derive(Clone, Copy)]
 pub struct Step {
     pub index: usize,
-    pub kind: u8,
+    pub kind: Option<Kind>,
     pub depth: usize,
     pub own: u64,
     pub other: u64,
@@ -35,7 +37,7 @@ impl Step {
     {
         Step {
             index: reply.index,
-            kind: reply.kind,
+            kind: Some(reply.kind),
             depth: self.depth + 1,
             own: self.other,
             other: joined,
@@ -45,11 +47,31 @@ impl Step {
     }
 }
 
-// A node's mark after one reply more: a reply that is marked U (1) makes it D (2).
-pub fn settled(mark: u8, reply: u8) -> u8
-    ensures { result ≡ settled_by mark reply }
-{
-    if reply == 1 { 2 } else { mark }
+// A node's mark: U or D.
+#[derive(Clone, Copy, PartialEq, Eq, Debug)]
+pub enum Mark {
+    Undefeated = 1,
+    Defeated = 2,
+}
+
+impl Mark {
+    // The mark's number.
+    pub fn number(self) -> u8
+        ensures { result ≡ number_of_mark self }
+    {
+        self as u8
+    }
+
+    // The mark after one reply more, whose mark's number is given: a reply that is marked U makes a node D.
+    pub fn settled(self, reply: u8) -> Self
+        ensures { number_of_mark result ≡ settled_by (number_of_mark self) reply }
+    {
+        if reply == Mark::Undefeated as u8 {
+            Mark::Defeated
+        } else {
+            self
+        }
+    }
 }
 
 // Puts a step's argument on the line, and its node's entry but the mark into the tables.
@@ -60,5 +82,5 @@ pub fn enter(line: &mut [u32], columns: &mut Columns, step: Step, argument: u32)
     line[step.depth] = argument;
     columns.indexes[step.at] = step.index as u32;
     columns.parents[step.at] = step.parent as u32;
-    columns.kinds[step.at] = step.kind;
+    columns.kinds[step.at] = step.kind.map_or(0, Kind::number);
 }

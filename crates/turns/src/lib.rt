@@ -6,7 +6,7 @@ ghost use Rattle.tree.specs.Inside.Steps.{Ready, Leaves};
 
 use argument::numbers::mask_of;
 use tree::candidates::{Framework, first_reply};
-use tree::nodes::{Columns, Step, enter, settled};
+use tree::nodes::{Columns, Mark, Step, enter};
 
 // Writes the tree of a supporter's argument. Returns the next free number, or None where the tree has more nodes than the
 // limit leaves room for. The line is that of the parent.
@@ -27,18 +27,18 @@ pub fn supporter(
     let argument = framework.arguments[step.index];
     enter(line, columns, step, argument);
     let supports = step.own | mask_of(argument);
-    let mut mark = 1u8;
+    let mut mark = Mark::Undefeated;
     let mut next = step.at + 1;
     let mut start = 0;
     // A `for` over all candidates, with the test in it, was tried: up to three times the instructions of this search.
     while let Some(objection) = first_reply(framework, line, step, start) {
         let reply = step.answered(supports, objection, next);
         let end = objector(framework, line, reply, limit, columns)?;
-        mark = settled(mark, columns.marks[next]);
+        mark = mark.settled(columns.marks[next]);
         next = end;
         start = objection.index + 1;
     }
-    columns.marks[step.at] = mark;
+    columns.marks[step.at] = mark.number();
     Some(next)
 }
 
@@ -60,16 +60,16 @@ pub fn objector(
     let argument = framework.arguments[step.index];
     enter(line, columns, step, argument);
     let objections = step.own | mask_of(argument);
-    let mut mark = 1u8;
+    let mut mark = Mark::Undefeated;
     let mut next = step.at + 1;
     let mut start = 0;
     while let Some(support) = first_reply(framework, line, step, start) {
         let reply = step.answered(objections, support, next);
         let end = supporter(framework, line, reply, limit, columns)?;
-        mark = settled(mark, columns.marks[next]);
+        mark = mark.settled(columns.marks[next]);
         next = end;
         start = support.index + 1;
     }
-    columns.marks[step.at] = mark;
+    columns.marks[step.at] = mark.number();
     Some(next)
 }

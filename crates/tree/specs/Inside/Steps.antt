@@ -1,5 +1,5 @@
 -- What the steps of supporter and objector are asked, and what they leave.
-use Rattle.std.specs.Prelude.{◌≡◌, List, [], ◌∷◌, ◌≢◌, ℕ, zero, suc, ◌+◌, ◌^◌, ◌≤◌, ◌<◌, length, get_or, set, eqb, Option}
+use Rattle.std.specs.Prelude.{◌≡◌, List, [], ◌∷◌, ℕ, zero, suc, ◌+◌, ◌^◌, ◌≤◌, ◌<◌, length, get_or, set, eqb, Option, Some}
 use Rattle.lists.specs.Lists.{Within, choose, index_in}
 use Rattle.literals.specs.Sets.{union}
 use Rattle.program.specs.Program.{Program}
@@ -8,10 +8,13 @@ use Rattle.closures.specs.Inside.Table.{Laid}
 use Rattle.defeat.specs.Tests.{Tests}
 use Rattle.preference.specs.Preference.{preferred_test}
 use Rattle.defeat.specs.Inside.Exclusions.{Ready as Made}
+use Rattle.defeat.specs.Inside.Kinds.{number_of, number_of_kind}
 use Rattle.defeat.specs.OfProgram.{tests_of}
 use Rattle.tree.specs.declared.candidates.Framework.{Framework}
 use Rattle.tree.specs.declared.candidates.Reply.{Reply}
 use Rattle.tree.specs.declared.nodes.Columns.{Columns}
+use Rattle.tree.specs.declared.nodes.Mark.{Mark}
+use Rattle.tree.specs.declared.nodes.Mark.TheVariants.{Undefeated, Defeated}
 use Rattle.tree.specs.declared.nodes.Step.{Step}
 use Rattle.tree.specs.Reply.{mine, theirs, reply_kind, last_kind}
 use Rattle.tree.specs.Forest.{none, tree, replies}
@@ -32,6 +35,11 @@ masks_of (x ∷ l) = union (masks_of l) (mask_of x)
 unfoldable pub tree_entries : Tests ℕ → List ℕ → (x kind at parent : ℕ) → List Entry
 tree_entries t l x kind at parent = preorder (index_in t.arguments) at parent (tree x kind (replies t (x ∷ l)) none)
 
+-- a mark in the engine, as document 01's number: "mark 1 U, 2 D"
+abbrev pub number_of_mark : Mark → ℕ
+number_of_mark Undefeated = 1
+number_of_mark Defeated = 2
+
 -- a node's mark after one reply more: "An inner node is U exactly when every child is D, else D."
 abbrev pub settled_by : (mark reply : ℕ) → ℕ
 settled_by mark reply = choose (eqb reply 1) 2 mark
@@ -40,7 +48,7 @@ settled_by mark reply = choose (eqb reply 1) 2 mark
 pub record Prepared (f : Framework) : Type 0 where
   pub program : Program
   pub conclusions : ℕ
-  pub made : Made program conclusions f.table.now f.rows.now f.exclusions.now f.arguments.now (length f.arguments.now)
+  pub made : Made program conclusions f.table.now f.rows.now f.exclusions.now f.arguments.now
   pub laid : Laid f.rows.now
 
 -- the tests of that program
@@ -58,7 +66,7 @@ pub record Ready (f : Framework) (line : List ℕ) (s : Step) (limit : ℕ) : Ty
   pub on_line : Within (line_of line s.depth) f.arguments.now
   pub own_masks : s.own ≡ masks_of (theirs (line_of line s.depth))
   pub other_masks : s.other ≡ masks_of (mine (line_of line s.depth))
-  pub kind_is : (w : Prepared f) → s.kind ≡ last_kind (tests_in w) (argument_of f s ∷ line_of line s.depth)
+  pub kind_is : (w : Prepared f) → number_of_kind s.kind ≡ last_kind (tests_in w) (argument_of f s ∷ line_of line s.depth)
   pub in_list : s.index < length f.arguments.now
   pub parent_in : s.parent ≤ s.at
   pub deep : s.depth ≤ s.at
@@ -71,14 +79,14 @@ pub record Ready (f : Framework) (line : List ℕ) (s : Step) (limit : ℕ) : Ty
 abbrev pub Leaves : (f : Framework) (line line' : List ℕ) (s : Step) (limit : ℕ) (r : Option ℕ) (t t' : Columns) → Type 0
 Leaves f line line' s limit r t t' =
     ((w : Prepared f)
-    → Built (tree_entries (tests_in w) (line_of line s.depth) (argument_of f s) s.kind s.at s.parent) s.at limit r t t')
+    → Built (tree_entries (tests_in w) (line_of line s.depth) (argument_of f s) (number_of_kind s.kind) s.at s.parent) s.at limit r t t')
     × (line_of line' s.depth ≡ line_of line s.depth)
 
 -- the step of a reply to a step: the sides change places
 abbrev pub answered : (s : Step) (joined : ℕ) (r : Reply) (at : ℕ) → Step
 answered s joined r at = record {
   index = r.index;
-  kind = r.kind;
+  kind = Some r.kind;
   depth = s.depth + 1;
   own = s.other;
   other = joined;
@@ -92,7 +100,7 @@ pub record Asked (f : Framework) (line : List ℕ) (s : Step) : Type 0 where
   pub prepared : Prepared f
   pub on_line : Within (line_of line (s.depth + 1)) f.arguments.now
   pub side_masks : s.other ≡ masks_of (theirs (line_of line (s.depth + 1)))
-  pub last_is : (w : Prepared f) → s.kind ≡ last_kind (tests_in w) (line_of line (s.depth + 1))
+  pub last_is : (w : Prepared f) → number_of_kind s.kind ≡ last_kind (tests_in w) (line_of line (s.depth + 1))
   pub line_holds : s.depth < length line
 
 -- none of the candidates from `start` up to number n is a reply to the step
@@ -105,8 +113,7 @@ pub record FirstReply (f : Framework) (line : List ℕ) (s : Step) (start : ℕ)
   pub low : start ≤ r.index
   pub in_list : r.index < length f.arguments.now
   pub none_before : NoReply f line s start r.index
-  pub kind_is : (w : Prepared f) → r.kind ≡ reply_kind (tests_in w) (line_of line (s.depth + 1)) (get_or f.arguments.now r.index 0)
-  pub is_reply : r.kind ≢ 0
+  pub kind_is : (w : Prepared f) → number_of r.kind ≡ reply_kind (tests_in w) (line_of line (s.depth + 1)) (get_or f.arguments.now r.index 0)
 
 -- what is asked before a node is entered: each table has its place, and the numbers fit
 pub record Enters (line : List ℕ) (s : Step) : Type 0 where
@@ -118,4 +125,4 @@ pub record Enters (line : List ℕ) (s : Step) : Type 0 where
 -- what that leaves in the tables
 pub record Entered (line line' : List ℕ) (s : Step) (argument : ℕ) (t t' : Columns) : Type 0 where
   pub line_is : line' ≡ set line s.depth argument
-  pub tables_are : t' ≡ opened s.at s.index s.parent s.kind t
+  pub tables_are : t' ≡ opened s.at s.index s.parent (number_of_kind s.kind) t

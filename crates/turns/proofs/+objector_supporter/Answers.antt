@@ -41,7 +41,7 @@ supporter-loop-objection-preserved t c =
     turn_step c.loop-objection.invariant c.in-Some.ensures left.0 _ left.1 c.objector.auto.line c.settled-mark.ensures
 
 pub supporter-returns : goal.supporter-returns
-supporter-returns t c = (turn_end c.loop-objection.invariant c.in_default.ensures, turn_kept c.loop-objection.invariant)
+supporter-returns t c = rw c.number.ensures (turn_end c.loop-objection.invariant c.in_default.ensures, turn_kept c.loop-objection.invariant)
 
 pub objector-returns-then-limit-step : goal.objector-returns-then-limit-step
 objector-returns-then-limit-step t c = (turn_none c.requires c.if-limit-step.true _, refl)
@@ -78,4 +78,4 @@ objector-loop-support-preserved t c =
     turn_step c.loop-support.invariant c.in-Some.ensures left.0 _ left.1 c.supporter.auto.line c.settled-mark.ensures
 
 pub objector-returns : goal.objector-returns
-objector-returns t c = (turn_end c.loop-support.invariant c.in_default.ensures, turn_kept c.loop-support.invariant)
+objector-returns t c = rw c.number.ensures (turn_end c.loop-support.invariant c.in_default.ensures, turn_kept c.loop-support.invariant)

@@ -5,7 +5,7 @@ use mathlib.Core.Bool.{Bool, true, false}
 use mathlib.Core.List.{List, ◌∷◌}
 use Prim.Native.Nat.{ℕ, ◌+◌, ◌<◌, ◌≤◌}
 use native.Mathlib.Omega.{arith}
-use lib.ListN.{length, get_or, take, drop, drop_of_length-le}
+use lib.ListN.{length, get_or, drop, drop_of_length-le}
 use Rattle.literals.specs.Inside.Words.{set_of}
 use Rattle.program.specs.Program.{Program}
 use Rattle.program.specs.Limits.{Limits, Mask}
@@ -13,6 +13,7 @@ use Rattle.program.specs.Inside.Table.{Holds}
 use Rattle.argument.specs.Argument.{mask_of}
 use Rattle.argument.specs.List.{argument_list}
 use Rattle.preference.specs.Preference.{preferred_test}
+use Rattle.defeat.specs.Inside.Kinds.{number_of_kind}
 use Rattle.defeat.specs.Inside.Steps.{attacked_by, kind_among}
 use Rattle.defeat.proofs.Weighing.{kind_left, left_start, left_none, left_skip, left_proper, left_under, left_neither}
 use Rattle.defeat.proofs.Attacks.{listed_mask_lem, entry_listed, entry_first, entry_past}
@@ -116,4 +117,4 @@ module _ (table l : List ℕ) (s x y : ℕ) where
               ∙ first p limits holds below listed
 
 abbrev pub invariant-loop-z : goal.invariant-loop-z
-invariant-loop-z l = Left l.table (take l.fn.count l.arguments) (set_of l.excluded) l.x l.y l.found l.z-index
+invariant-loop-z l = Left l.table l.arguments (set_of l.excluded) l.x l.y (number_of_kind l.found) l.z-index

@@ -1,5 +1,6 @@
 -- The tests in turn: of attack, of the candidate's side, of the line, of defeat, of the rule on blocking defeaters.
-use mathlib.Core.Path.{subst}
+use mathlib.Core.Path.{refl, subst}
+use Rattle.defeat.specs.Inside.Kinds.{number_of, number_of_kind}
 use Rattle.defeat.specs.Inside.Steps.{AttacksBy}
 use Rattle.tree.proofs.Asking.{asking_numbers, asking_x, asking_y, asking_apart, asking_discordant, asking_used, asking_free}
 use Rattle.tree.proofs.candidates.reply_kind.Goals as goal
@@ -22,15 +23,21 @@ pub returns-then-used : goal.returns-then-used
 returns-then-used c = λ w. asking_used c.requires.asked c.args.j c.requires.j_in_list w c.mask_of-mask.result c.mask_of-mask.ensures c.contradictory.result c.contradictory.ensures c.used.result
     c.used.ensures c.if-used.true
 
-pub kind-kind-requires : goal.kind-kind-requires
-kind-kind-requires c = let x = asking_x c.requires.asked c.args.j c.requires.j_in_list in
+pub kind-requires : goal.kind-requires
+kind-requires c = let x = asking_x c.requires.asked c.args.j c.requires.j_in_list in
     let y = asking_y c.requires.asked c.args.j c.requires.j_in_list in
     record {
       numbers = asking_numbers c.requires.asked c.args.j c.requires.j_in_list;
       x_bound = (x, y);
     }
 
+pub returns-in_err-kind : goal.returns-in_err-kind
+returns-in_err-kind c = rw c.from_residual.ensures (λ w.
+    asking_free c.requires.asked c.args.j c.requires.j_in_list w c.mask_of-mask.result c.mask_of-mask.ensures c.contradictory.result c.contradictory.ensures c.used.result
+    c.used.ensures c.if-contradictory.false c.if-used.false 0 0
+    (c.in_err-kind.ensures w.program w.conclusions c.args.framework.now.rows.now w.made) refl)
+
 pub returns : goal.returns
 returns c = λ w. asking_free c.requires.asked c.args.j c.requires.j_in_list w c.mask_of-mask.result c.mask_of-mask.ensures c.contradictory.result c.contradictory.ensures c.used.result
-    c.used.ensures c.if-contradictory.false c.if-used.false c.kind-kind.result c.follow.result
-    (c.kind-kind.ensures w.program w.conclusions c.args.framework.now.rows.now w.made) c.follow.ensures
+    c.used.ensures c.if-contradictory.false c.if-used.false (number_of c.in_ok-kind.kind) (number_of_kind c.follow.result)
+    (c.in_ok-kind.ensures w.program w.conclusions c.args.framework.now.rows.now w.made) c.follow.ensures
