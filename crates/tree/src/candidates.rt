@@ -56,7 +56,7 @@ fn follow(last: Option<Kind>, kind: Kind) -> Option<Kind>
 
 // The kind of candidate j as a reply to a step, whose argument is the line's last one, or None. Most candidates
 // attack nothing there, which is the cheapest to see, so that test comes first.
-fn reply_kind(framework: &Framework<'_>, line: &[u32], step: Step, j: usize) -> Option<Kind>
+pub fn reply_kind(framework: &Framework<'_>, line: &[u32], step: Step, j: usize) -> Option<Kind>
     requires asked { Asked framework.now line.now step }
     requires j_in_list { j < length framework.now.arguments.now }
     ensures { (w : Prepared framework.now)
