@@ -23,7 +23,6 @@ pub fn check(image: &[u8]) -> Result<(), Refusal>
 
 // Reads an image into the rule table: the first of causes 1 to 14 that applies.
 pub fn load(image: &[u8], table: &mut RuleTable) -> Result<(), Refusal>
-    requires { length table.old ≡ 419 }
     ensures { (told result ≡ check_image image.now) × (check_image image.now ≡ Accepted → Holds (program_in image.now) table.new) }
 {
     image::read(image, table)?;

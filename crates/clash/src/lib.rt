@@ -95,7 +95,6 @@ fn contradictory_among(table: &RuleTable, chosen: LiteralSet) -> bool
 // rules.
 fn select(table: &RuleTable, chosen: LiteralSet, part: &mut RuleTable)
     requires shaped { Shaped table.now }
-    requires part_len { length part.old ≡ 419 }
     ensures shaped_2 { Shaped part.new }
     ensures holds { (p : Program) → Holds p table.now → Holds (selected (set_of chosen) p) part.new }
 {

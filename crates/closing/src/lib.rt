@@ -41,7 +41,7 @@ pub struct Ground {
 // Finds the live rules and where the rows of their literals stand. The table takes `end` + `span` + 1 words.
 pub fn plan(table: &RuleTable, live: &mut RuleTable, keep: &mut [u64], base: &mut [u64]) -> Ground
     requires shaped { (Shaped table.now) × (NeedsOne table.now) }
-    requires live_len { (length live.old ≡ 419) × (length keep.old ≡ 128) × (length base.old ≡ 128) }
+    requires keep_len { (length keep.old ≡ 128) × (length base.old ≡ 128) }
     ensures planned { Planned live.new keep.new base.new (set_of result.derived) (set_of result.literals)
         (set_of result.pairs) result.end result.span }
     ensures plan_of { (p : Program) → Holds p table.now → PlanOf p live.new (set_of result.derived) (set_of result.literals) }

@@ -6,7 +6,7 @@ use Rattle.clash.proofs.select.Goals as goal
 use Rattle.clash.proofs.select.Goals.{then-has, else-has}
 
 pub loop-i-init : goal.loop-i-init
-loop-i-init c = selecting_start _ _ _ c.rule_count-rules.ensures _ c.requires.part_len
+loop-i-init c = selecting_start _ _ _ c.rule_count-rules.ensures _ c.told-part
 
 pub store_row-requires : goal.store_row-requires
 store_row-requires c = omega (arith, c.loop-i.invariant.few, c.rule_count-rules.ensures, c.requires.shaped.few)

@@ -17,7 +17,7 @@ use Rattle.closing.proofs.plan.Goals.{After-live_rules, After-pairs_of-pairs}
 
 module _ (c : After-live_rules) where
   live : LiveRules c.args.table.now (set_of c.reach.result.derived) (set_of c.reach.result.literals) c.live_rules.new.live
-  live = c.live_rules.ensures c.requires.live_len.0
+  live = c.live_rules.ensures
 
   shaped : Shaped c.live_rules.new.live
   shaped = live_shaped c.args.table.now (set_of c.reach.result.derived) (set_of c.reach.result.literals) _ live c.requires.shaped.0
