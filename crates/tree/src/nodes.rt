@@ -16,8 +16,8 @@ pub struct Columns {
     pub marks: [u8; 4096],
 }
 
-// A step on a line: an argument, by its index in the argument list, that replies to the line's last one, or is a root, with
-// no kind. `own` and `other` are the masks of the step's own side on the line and of the other side; `at` is its node's number.
+// A step on a line: an argument, by its index in the argument list, that replies to the line's last one; a root's has no
+// kind. `own` and `other` are the masks of the step's own side on the line and of the other side; `at` is its node's number.
 #[derive(Clone, Copy)]
 pub struct Step {
     pub index: usize,
