@@ -28,6 +28,7 @@ use Rattle.filing.proofs.Filed.{long, numbers_long, old_numbering}
 use Rattle.filing.proofs.Typed.{typed_long}
 use Rattle.filing.proofs.Refusals.{file_accepted, unfile_accepted}
 use Rattle.filing.proofs.Claims.{file_fills, file_numbers_lem, unfile_fills}
+use Rattle.filer.proofs.Rules.{accepted_few}
 use Rattle.filer.proofs.Renumberings.{placed_inverse}
 
 -- what was written at the front of a table
@@ -59,6 +60,12 @@ module _ (s : List ℕ) (room entries : ℕ) where
 
     pub admit_all : length s ≤ room → rules_of s ≤ entries → Accepted ≡ file_verdict s room entries
     admit_all h k = sym (by_rooms false false (le-ltb room (length s) h) (le-ltb entries (rules_of s) k))
+
+-- an accepted image's rules are few, and the number table has an entry for each
+pub rules_in : (s : List ℕ) (room entries : ℕ) → file_verdict s room entries ≡ Accepted → (n : ℕ) → n ≡ rules_of s → (n ≤ entries) × (n ≤ 96)
+rules_in s room entries e n is =
+    let a = file_accepted s room entries e in
+    (omega (arith, a.2), omega (arith, (accepted_few s a.0).0))
 
 -- ---- the writer
 

@@ -5,7 +5,7 @@ use Rattle.std.proofs.lemmas.Result.{err_from_is_err_and}
 use Rattle.calls.specs.Verdicts.{told}
 use Rattle.filing.proofs.Refusals.{file_accepted}
 use Rattle.filer.proofs.Rules.{accepted_long, accepted_short}
-use Rattle.filer.proofs.Files.{file_turned, filed_front, filed_numbering, file_done}
+use Rattle.filer.proofs.Files.{file_turned, filed_front, filed_numbering, file_done, rules_in}
 use native.Mathlib.Omega.{arith}
 use Rattle.filer.proofs.file.Goals as goal
 
@@ -17,16 +17,14 @@ pub number_at-rules-requires : goal.number_at-rules-requires
 number_at-rules-requires c = omega (arith, accepted_long _ (file_accepted _ _ _ (sym c.admit.ensures ∙ ap told c.in_ok-admit.was)).0)
 
 pub slice_bounds-order-end : goal.slice_bounds-order-end
-slice_bounds-order-end c = let a = file_accepted _ _ _ (sym c.admit.ensures ∙ ap told c.in_ok-admit.was) in
-    omega (arith, a.2, c.number_at-rules.ensures)
+slice_bounds-order-end c = (rules_in _ _ _ (sym c.admit.ensures ∙ ap told c.in_ok-admit.was) _ c.number_at-rules.ensures).0
 
 pub slice_bounds-order-end-2 : goal.slice_bounds-order-end-2
-slice_bounds-order-end-2 c = let a = file_accepted _ _ _ (sym c.admit.ensures ∙ ap told c.in_ok-admit.was) in
-    sym (length-take-le _ _ (omega (arith, a.2, c.number_at-rules.ensures)))
+slice_bounds-order-end-2 c = sym (length-take-le _ _ (rules_in _ _ _ (sym c.admit.ensures ∙ ap told c.in_ok-admit.was) _ c.number_at-rules.ensures).0)
 
 pub fill-requires : goal.fill-requires
-fill-requires c = let a = file_accepted _ _ _ (sym c.admit.ensures ∙ ap told c.in_ok-admit.was) in
-    (a.0, length-take-le _ _ (omega (arith, a.2, c.number_at-rules.ensures)) ∙ c.number_at-rules.ensures)
+fill-requires c = let e = sym c.admit.ensures ∙ ap told c.in_ok-admit.was in
+    ((file_accepted _ _ _ e).0, length-take-le _ _ (rules_in _ _ _ e _ c.number_at-rules.ensures).0 ∙ c.number_at-rules.ensures)
 
 pub write-requires : goal.write-requires
 write-requires c = let e = sym c.admit.ensures ∙ ap told c.in_ok-admit.was in

@@ -4,7 +4,6 @@ use mathlib.Core.List.{List}
 use Prim.Native.Nat.{ℕ, ◌+◌, ◌*◌, ◌≤◌}
 use lib.ListN.{length, take, drop}
 use lib.Seq.{length-take-le}
-use Rattle.lists.proofs.Stores.{written_length}
 use Rattle.writing.proofs.Outputs.{entries_length}
 use Rattle.filer.proofs.Wholes.{numbers, parts_at, total, short, pieces_written}
 use native.Mathlib.Omega.{arith}
@@ -22,8 +21,8 @@ slice_bounds-copy-end c = omega (arith, total _ c.requires.0 _ c.requires.1)
 
 pub copy-header-requires : goal.copy-header-requires
 copy-header-requires c = let t = total _ c.requires.0 _ c.requires.1 in
-    let h = length-take-le 8 c.args.image.now (omega (arith, t)) in
-    omega (arith, t, h, c.requires.2)
+    let h = length-take-le 8 c.args.image.now (omega arith) in
+    omega arith
 
 pub overflow_mul-order : goal.overflow_mul-order
 overflow_mul-order c = omega (arith, total _ c.requires.0 _ c.requires.1, short _ c.requires.0 _ c.requires.1)
@@ -33,50 +32,40 @@ overflow_add-order c = omega (arith, total _ c.requires.0 _ c.requires.1, short 
 
 pub entries-place-requires : goal.entries-place-requires
 entries-place-requires c = let t = total _ c.requires.0 _ c.requires.1 in
-    let h = eight c.args.image.now (omega (arith, t)) in
-    let l = written_length _ _ _ _ _ c.copy-header.ensures in record {
+    let h = eight c.args.image.now (omega arith) in record {
       parts_at = parts_at _ c.requires.0 _ c.requires.1;
       numbers = numbers _ c.requires.0 _ c.requires.1;
-      rules_in_bounds = omega (arith, t, h, l, c.copy-header.ensures.next_is, c.requires.2);
+      rules_in_bounds = omega arith;
       order_bound = omega (arith, t, short _ c.requires.0 _ c.requires.1);
     }
 
 pub entry-directory-requires : goal.entry-directory-requires
 entry-directory-requires c = let t = total _ c.requires.0 _ c.requires.1 in
     let few = short _ c.requires.0 _ c.requires.1 in
-    let h = eight c.args.image.now (omega (arith, t)) in
-    let l = written_length _ _ _ _ _ c.copy-header.ensures in
-    let m = written_length _ _ _ _ _ c.entries-place.ensures.written in
+    let h = eight c.args.image.now (omega arith) in
     let d = entries_length c.args.image.now c.args.order.now (12 + 4 * length c.args.order.now) in record {
-      from_bound = omega (arith, t, few, c.entries-place.ensures.from_value);
-      size_bound = omega (arith, t, few, c.number_at-count.ensures);
-      at_in_bounds = omega (arith, t, h, l, m, d, c.copy-header.ensures.next_is, c.entries-place.ensures.written.next_is, c.requires.2);
+      from_bound = omega arith;
+      size_bound = omega arith;
+      at_in_bounds = omega arith;
     }
 
 pub parts-next-requires : goal.parts-next-requires
 parts-next-requires c = let t = total _ c.requires.0 _ c.requires.1 in
-    let h = eight c.args.image.now (omega (arith, t)) in
-    let l = written_length _ _ _ _ _ c.copy-header.ensures in
-    let m = written_length _ _ _ _ _ c.entries-place.ensures.written in
-    let k = written_length _ _ _ _ _ c.entry-directory.ensures in
+    let h = eight c.args.image.now (omega arith) in
     let d = entries_length c.args.image.now c.args.order.now (12 + 4 * length c.args.order.now) in record {
       parts_at = parts_at _ c.requires.0 _ c.requires.1;
       numbers = numbers _ c.requires.0 _ c.requires.1;
-      order_in_bounds = omega (arith, t, h, l, m, k, d, c.copy-header.ensures.next_is, c.entries-place.ensures.written.next_is, c.entry-directory.ensures.next_is, c.requires.2);
+      order_in_bounds = omega arith;
     }
 
 pub write-requires : goal.write-requires
 write-requires c = let t = total _ c.requires.0 _ c.requires.1 in
-    let h = eight c.args.image.now (omega (arith, t)) in
-    let l = written_length _ _ _ _ _ c.copy-header.ensures in
-    let m = written_length _ _ _ _ _ c.entries-place.ensures.written in
-    let k = written_length _ _ _ _ _ c.entry-directory.ensures in
-    let j = written_length _ _ _ _ _ c.parts-next.ensures in
+    let h = eight c.args.image.now (omega arith) in
     let d = entries_length c.args.image.now c.args.order.now (12 + 4 * length c.args.order.now) in (
       c.requires.0,
       c.number_at-count.ensures,
       c.requires.1,
-      omega (arith, t, h, l, m, k, j, d, c.copy-header.ensures.next_is, c.entries-place.ensures.written.next_is, c.entry-directory.ensures.next_is, c.parts-next.ensures.next_is, c.number_at-count.ensures, c.requires.2),
+      omega arith,
     )
 
 pub returns : goal.returns

@@ -1,7 +1,6 @@
 use Prim.Native.Nat.{◌+◌, ◌-◌, ◌<◌, ◌≤◌}
 use native.Mathlib.Omega.{arith}
 use lib.ListN.{length}
-use Rattle.layout.proofs.Parts.{located_order}
 use Rattle.writing.proofs.Outputs.{entering_all, entering_none, entry_fits, entry_written}
 use Rattle.writing.proofs.entries.Goals as goal
 use Rattle.writing.proofs.entries.Goals.{After-locate-span}
@@ -17,9 +16,6 @@ loop-number-init c = entering_all _ _ _ _ _
 
 pub locate-span-requires : goal.locate-span-requires
 locate-span-requires c = c.requires.parts_at _ (omega (arith, c.from-i.ensures, c.requires.numbers.below c.loop-number.number-index (omega arith)))
-
-pub overflow_sub-size : goal.overflow_sub-size
-overflow_sub-size c = located_order _ _ _ _ c.locate-span.ensures
 
 pub entry-next-requires : goal.entry-next-requires
 entry-next-requires c = let f = fits (goal.at.entry-next-requires c).After-locate-span in record {
