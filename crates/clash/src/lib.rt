@@ -94,8 +94,8 @@ fn contradictory_among(table: &RuleTable, chosen: LiteralSet) -> bool
 // The rules of the set in a table of their own, each as a strict one, so that `derivation::close` closes them as it does any
 // rules.
 fn select(table: &RuleTable, chosen: LiteralSet, part: &mut RuleTable)
-    requires shaped { Shaped table.now }
-    ensures shaped_2 { Shaped part.new }
+    requires { Shaped table.now }
+    ensures shaped { Shaped part.new }
     ensures holds { (p : Program) → Holds p table.now → Holds (selected (set_of chosen) p) part.new }
 {
     let rules = program::rule_count(table);

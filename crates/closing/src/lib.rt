@@ -39,9 +39,13 @@ pub struct Ground {
 }
 
 // Finds the live rules and where the rows of their literals stand. The table takes `end` + `span` + 1 words.
-pub fn plan(table: &RuleTable, live: &mut RuleTable, keep: &mut [u64], base: &mut [u64]) -> Ground
-    requires shaped { (Shaped table.now) × (NeedsOne table.now) }
-    requires keep_len { (length keep.old ≡ 128) × (length base.old ≡ 128) }
+pub fn plan(
+    table: &RuleTable,
+    live: &mut RuleTable,
+    keep: &mut [u64; 128],
+    base: &mut [u64; 128],
+) -> Ground
+    requires { (Shaped table.now) × (NeedsOne table.now) }
     ensures planned { Planned live.new keep.new base.new (set_of result.derived) (set_of result.literals)
         (set_of result.pairs) result.end result.span }
     ensures plan_of { (p : Program) → Holds p table.now → PlanOf p live.new (set_of result.derived) (set_of result.literals) }
@@ -61,7 +65,7 @@ pub fn plan(table: &RuleTable, live: &mut RuleTable, keep: &mut [u64], base: &mu
 }
 
 // Fills the table, as it was planned.
-pub fn fill(live: &RuleTable, plan: Ground, keep: &[u64], base: &[u64], rows: &mut [u64])
+pub fn fill(live: &RuleTable, plan: Ground, keep: &[u64; 128], base: &[u64; 128], rows: &mut [u64])
     requires planned { Planned live.now keep.now base.now (set_of plan.derived) (set_of plan.literals) (set_of plan.pairs) plan.end plan.span }
     requires span_in_bounds { (plan.end + plan.span < length rows.old) × (length rows.old < 2 ^ 32) }
     ensures laid { Laid rows.new }
@@ -100,9 +104,8 @@ fn pairs_of(set: LiteralSet) -> LiteralSet
 }
 
 // What bears on the literals of a set and on those after them.
-fn span_of(keep: &[u64], pairs: LiteralSet) -> u64
-    requires keep_len { length keep.now ≡ 128 }
-    requires by_index { ((l : ℕ) → has_of (set_of pairs) l ≡ true → l < 127) × ((l : ℕ) → get_or keep.now l 0 < 1024) }
+fn span_of(keep: &[u64; 128], pairs: LiteralSet) -> u64
+    requires { ((l : ℕ) → has_of (set_of pairs) l ≡ true → l < 127) × ((l : ℕ) → get_or keep.now l 0 < 1024) }
     ensures { (result < 1024) × ((l : ℕ) → has_of (set_of pairs) l ≡ true
         → (within_of (get_or keep.now l 0) result ≡ true) × (within_of (get_or keep.now (l + 1) 0) result ≡ true)) }
 {
@@ -115,8 +118,8 @@ fn span_of(keep: &[u64], pairs: LiteralSet) -> u64
 }
 
 // What stands before the rows: an empty word and a full one, where each row begins, and what bears on it.
-fn lay(plan: Ground, keep: &[u64], base: &[u64], rows: &mut [u64])
-    requires { (length keep.now ≡ 128) × (length base.now ≡ 128) × (260 ≤ length rows.old) }
+fn lay(plan: Ground, keep: &[u64; 128], base: &[u64; 128], rows: &mut [u64])
+    requires { 260 ≤ length rows.old }
     ensures { Header (set_of plan.derived) (set_of plan.literals) plan.end plan.span keep.now base.now
         rows.old rows.new }
 {
@@ -138,8 +141,8 @@ fn blank(rows: &mut [u64])
 }
 
 // Puts the values of the literals of a set at the words from `at` on.
-fn scatter(table: &mut [u64], at: u64, set: LiteralSet, values: &[u64])
-    requires { (at ≤ 131) × (length values.now ≡ 128) × (260 ≤ length table.old) }
+fn scatter(table: &mut [u64], at: u64, set: LiteralSet, values: &[u64; 128])
+    requires { (at ≤ 131) × (260 ≤ length table.old) }
     ensures set_bound { set_of set < 2 ^ 128 }
     ensures scattered { Scattered at (set_of set) (λ l. get_or values.now l 0) table.old table.new }
 {

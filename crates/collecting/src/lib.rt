@@ -138,8 +138,14 @@ fn write_word(rows: &[u64], literals: LiteralSet, w: u64, at: usize, arguments: 
 }
 
 // Writes the columns of some of the masks from 64 w on, and returns the next place.
-fn write_columns(columns: &[u64], masks: u64, w: u64, at: usize, arguments: &mut [u32]) -> usize
-    requires columns_len { (length columns.now ≡ 128) × (w < 1024) }
+fn write_columns(
+    columns: &[u64; 128],
+    masks: u64,
+    w: u64,
+    at: usize,
+    arguments: &mut [u32],
+) -> usize
+    requires w_bound { w < 1024 }
     requires w_in_bounds { at + length (columns_list columns.now masks w) ≤ length arguments.old }
     ensures { Written arguments.old arguments.new at result (columns_list columns.now masks w) }
 {
@@ -152,8 +158,8 @@ fn write_columns(columns: &[u64], masks: u64, w: u64, at: usize, arguments: &mut
 }
 
 // Puts the literals of the arguments with the masks from 64 w on into the masks' columns, and returns the masks that have some.
-fn turn(rows: &[u64], literals: LiteralSet, w: u64, columns: &mut [u64]) -> u64
-    requires { (Laid rows.now) × (w < 1024) × (length columns.old ≡ 128) }
+fn turn(rows: &[u64], literals: LiteralSet, w: u64, columns: &mut [u64; 128]) -> u64
+    requires { (Laid rows.now) × (w < 1024) }
     ensures { Turned rows.now w (Members (set_of literals)) columns.old columns.new 0 result }
 {
     let mut masks: u64 = 0;
@@ -164,8 +170,8 @@ fn turn(rows: &[u64], literals: LiteralSet, w: u64, columns: &mut [u64]) -> u64
 }
 
 // The same for one literal. A row has no argument in a word that it does not span.
-fn turn_row(rows: &[u64], literal: u64, w: u64, columns: &mut [u64]) -> u64
-    requires laid { (Laid rows.now) × (w < 1024) × (length columns.old ≡ 128) }
+fn turn_row(rows: &[u64], literal: u64, w: u64, columns: &mut [u64; 128]) -> u64
+    requires laid { (Laid rows.now) × (w < 1024) }
     requires literal_bound { literal < 128 }
     ensures { (Word rows.now literal w result) × (Put literal result columns.old columns.new) }
 {
@@ -178,8 +184,8 @@ fn turn_row(rows: &[u64], literal: u64, w: u64, columns: &mut [u64]) -> u64
 }
 
 // Puts l into the columns of the members of x.
-fn put(columns: &mut [u64], l: u64, x: u64)
-    requires { (l < 128) × (length columns.old ≡ 128) }
+fn put(columns: &mut [u64; 128], l: u64, x: u64)
+    requires { l < 128 }
     ensures { Put l x columns.old columns.new }
 {
     for k in masks::bits(x) {

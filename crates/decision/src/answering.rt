@@ -18,8 +18,8 @@ use tree::nodes::Columns;
 pub struct Plan<'t> {
     pub ground: Ground,
     pub live: &'t RuleTable,
-    pub keep: &'t [u64],
-    pub base: &'t [u64],
+    pub keep: &'t [u64; 128],
+    pub base: &'t [u64; 128],
 }
 
 // Fills the lent table of rows as it was planned, writes the argument list and answers the literal. There is no answer where

@@ -23,8 +23,8 @@ mod strict;
 #[derive(Clone, Copy)]
 struct LaidRules<'a> {
     rules: &'a RuleTable,
-    keep: &'a [u64],
-    base: &'a [u64],
+    keep: &'a [u64; 128],
+    base: &'a [u64; 128],
     ghost laid: { Laid rules.now keep.now base.now },
 }
 

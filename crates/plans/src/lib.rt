@@ -1,7 +1,7 @@
 // The plan of projected rows: which rules bear on each literal, above the lowest six bits, and where each row begins.
 #![tactic(auto)]
 
-ghost use Rattle.std.specs.Prelude.{◌≡◌, ◌+◌, ◌*◌, ◌^◌, ◌<◌, ◌≤◌, length};
+ghost use Rattle.std.specs.Prelude.{◌≡◌, ◌+◌, ◌*◌, ◌^◌, ◌<◌, ◌≤◌};
 ghost use Rattle.program.specs.Inside.Table.{rule_count, Shaped};
 ghost use Rattle.literals.specs.Inside.Words.{set_of};
 ghost use Rattle.rows.specs.Switched.{NeedsOne};
@@ -12,11 +12,9 @@ use literals::LiteralSet;
 use program::RuleTable;
 
 // What each row keeps: rounds over the rules until one adds nothing.
-pub fn bearing(table: &RuleTable, keep: &mut [u64])
+pub fn bearing(table: &RuleTable, keep: &mut [u64; 128])
     requires shaped { Shaped table.now }
     requires needs_one { NeedsOne table.now }
-    requires keep_len { length keep.old ≡ 128 }
-    ensures keep_len_2 { length keep.new ≡ 128 }
     ensures small { Small keep.new }
     ensures bearing { Bearing table.now keep.new }
 {
@@ -25,10 +23,10 @@ pub fn bearing(table: &RuleTable, keep: &mut [u64])
 }
 
 // Where the row of each literal of a set begins: one after the other, from word `start` on. Where they end.
-pub fn place(keep: &[u64], literals: LiteralSet, start: u64, base: &mut [u64]) -> u64
-    requires keep_len { (length keep.now ≡ 128) × (Small keep.now) }
-    requires base_len { (length base.old ≡ 128) × (start ≤ 1024) }
-    ensures base_len_2 { (length base.new ≡ 128) × (start ≤ result) × (result ≤ 132096) }
+pub fn place(keep: &[u64; 128], literals: LiteralSet, start: u64, base: &mut [u64; 128]) -> u64
+    requires small { Small keep.now }
+    requires start_bound { start ≤ 1024 }
+    ensures result_bounds { (start ≤ result) × (result ≤ 132096) }
     ensures placed_in { PlacedIn keep.now base.new (set_of literals) start result }
     ensures literals_bound { set_of literals < 2 ^ 128 }
 {
@@ -42,10 +40,9 @@ pub fn place(keep: &[u64], literals: LiteralSet, start: u64, base: &mut [u64]) -
 }
 
 // Each rule once, in table order. Some rule added something.
-fn round(table: &RuleTable, keep: &mut [u64]) -> bool
+fn round(table: &RuleTable, keep: &mut [u64; 128]) -> bool
     requires shaped { Shaped table.now }
     requires needs_one { NeedsOne table.now }
-    requires keep_len { length keep.old ≡ 128 }
     ensures { Bears table.now 0 (rule_count table.now) keep.old keep.new result }
 {
     let rules = program::rule_count(table);
@@ -57,11 +54,10 @@ fn round(table: &RuleTable, keep: &mut [u64]) -> bool
 }
 
 // What rule i needs, and what bears on its body, bears on its head. It added something.
-fn bear(table: &RuleTable, i: u64, keep: &mut [u64]) -> bool
+fn bear(table: &RuleTable, i: u64, keep: &mut [u64; 128]) -> bool
     requires shaped { Shaped table.now }
     requires needs_one { NeedsOne table.now }
     requires i_bound { i < rule_count table.now }
-    requires keep_len { length keep.old ≡ 128 }
     ensures { Bears table.now i (i + 1) keep.old keep.new result }
 {
     let body = program::body(table, i);
@@ -77,8 +73,7 @@ fn bear(table: &RuleTable, i: u64, keep: &mut [u64]) -> bool
 }
 
 // The start with all that is kept for the literals of a set.
-fn join(keep: &[u64], literals: LiteralSet, start: u64) -> u64
-    requires { length keep.now ≡ 128 }
+fn join(keep: &[u64; 128], literals: LiteralSet, start: u64) -> u64
     ensures { Joined keep.now (set_of literals) start result }
 {
     let mut x = start;

@@ -47,8 +47,8 @@ pub fn list(table: &RuleTable, arguments: &mut [u32]) -> Option<u32>
 fn with_rows<const N: usize>(
     live: &RuleTable,
     plan: Ground,
-    keep: &[u64],
-    base: &[u64],
+    keep: &[u64; 128],
+    base: &[u64; 128],
     arguments: &mut [u32],
 ) -> Option<u32>
     requires planned { Planned live.now keep.now base.now (set_of plan.derived) (set_of plan.literals) (set_of plan.pairs) plan.end plan.span }

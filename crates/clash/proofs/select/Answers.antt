@@ -9,11 +9,11 @@ pub loop-i-init : goal.loop-i-init
 loop-i-init c = selecting_start _ _ _ c.rule_count-rules.ensures _ c.told-part
 
 pub store_row-requires : goal.store_row-requires
-store_row-requires c = omega (arith, c.loop-i.invariant.few, c.rule_count-rules.ensures, c.requires.shaped.few)
+store_row-requires c = omega (arith, c.loop-i.invariant.few, c.rule_count-rules.ensures, c.requires.few)
 
 pub loop-i-preserved : goal.loop-i-preserved
 loop-i-preserved c =
-    let pre = c.requires.shaped in
+    let pre = c.requires in
     selecting_next _ _ _ c.rule_count-rules.ensures c.loop-i.i _ _ (omega arith) c.loop-i-test.true c.loop-i.invariant _ _
     (pre.literals c.loop-i.i (omega arith))
     (elim c.if-has.branch [
@@ -27,9 +27,9 @@ loop-i-preserved c =
     ])
 
 pub returns : goal.returns
-returns c = let few = c.requires.shaped.few in
+returns c = let few = c.requires.few in
     let count = c.rule_count-rules.ensures in
     let atoms = c.atom_count.ensures in record {
-      shaped_2 = selected_shaped _ _ _ count c.loop-i.i _ _ _ _ (omega arith) (omega arith) c.loop-i.invariant atoms c.store_counts.ensures;
+      shaped = selected_shaped _ _ _ count c.loop-i.i _ _ _ _ (omega arith) (omega arith) c.loop-i.invariant atoms c.store_counts.ensures;
       holds = selected_holds _ _ _ count c.loop-i.i _ _ _ _ (omega arith) (omega arith) c.loop-i.invariant atoms c.store_counts.ensures;
     }

@@ -20,10 +20,10 @@ module _ (c : After-live_rules) where
   live = c.live_rules.ensures
 
   shaped : Shaped c.live_rules.new.live
-  shaped = live_shaped c.args.table.now (set_of c.reach.result.derived) (set_of c.reach.result.literals) _ live c.requires.shaped.0
+  shaped = live_shaped c.args.table.now (set_of c.reach.result.derived) (set_of c.reach.result.literals) _ live c.requires.0
 
   needed : NeedsOne c.live_rules.new.live
-  needed = live_needs c.args.table.now (set_of c.reach.result.derived) (set_of c.reach.result.literals) _ live c.requires.shaped.1
+  needed = live_needs c.args.table.now (set_of c.reach.result.derived) (set_of c.reach.result.literals) _ live c.requires.1
 
 module _ (c : After-pairs_of-pairs) where
   even : (l : ℕ) → has (set_of c.pairs_of-pairs.result) l ≡ true → (l < 127) × (l % 2 ≡ 0)
@@ -36,8 +36,8 @@ bearing-requires-clause-shaped c = shaped (goal.at.bearing-requires-clause-shape
 pub bearing-requires-clause-needs_one : goal.bearing-requires-clause-needs_one
 bearing-requires-clause-needs_one c = needed (goal.at.bearing-requires-clause-needs_one c).After-live_rules
 
-pub span_of-requires-clause-by_index : goal.span_of-requires-clause-by_index
-span_of-requires-clause-by_index c = (λ l h. (even (goal.at.span_of-requires-clause-by_index c).After-pairs_of-pairs l h).0, c.bearing.ensures.small)
+pub span_of-requires : goal.span_of-requires
+span_of-requires c = (λ l h. (even (goal.at.span_of-requires c).After-pairs_of-pairs l h).0, c.bearing.ensures.small)
 
 pub returns-clause-planned : goal.returns-clause-planned
 returns-clause-planned c = record {
@@ -45,13 +45,13 @@ returns-clause-planned c = record {
   needs = needed (goal.at.returns-clause-planned c).After-live_rules;
   named = live_named_in c.args.table.now (set_of c.reach.result.derived) (set_of c.reach.result.literals) _ (live (goal.at.returns-clause-planned c).After-live_rules);
   bearing = c.bearing.ensures.bearing;
-  keeps = c.bearing.ensures.keep_len_2;
-  bases = c.place-end.ensures.base_len_2.0;
+  keeps = c.bearing.array_long;
+  bases = c.place-end.array_long;
   small = c.bearing.ensures.small;
   fits = c.place-end.ensures.literals_bound;
   placed = c.place-end.ensures.placed_in;
-  behind = c.place-end.ensures.base_len_2.1;
-  ends = c.place-end.ensures.base_len_2.2;
+  behind = c.place-end.ensures.result_bounds.0;
+  ends = c.place-end.ensures.result_bounds.1;
   pairs = subst (λ (x : ℕ). Pairs x (set_of c.pairs_of-pairs.result)) c.union.ensures c.pairs_of-pairs.ensures;
   even = even (goal.at.returns-clause-planned c).After-pairs_of-pairs;
   few = c.span_of.ensures.0;

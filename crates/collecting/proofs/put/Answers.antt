@@ -13,7 +13,7 @@ loop-k-preserved c = (
   λ d m.
       c.loop-k.invariant.1 d
       (put_more c.args.l c.loop-k.k-iterator.left c.in-Some.k c.insert-s.result.lo c.insert-s.result.hi c.loop-k.columns d
-      c.in-Some.ensures.steps.0.member c.in-Some.ensures.steps.0.small (c.loop-k.invariant.0 ∙ c.requires.1)
+      c.in-Some.ensures.steps.0.member c.in-Some.ensures.steps.0.small (c.loop-k.invariant.0 ∙ c.told-columns)
       (c.insert-s.ensures ∙ ap (λ (s : ℕ). insert s c.args.l) c.of_words.ensures)
       (rw c.in-Some.ensures.steps.1 at m)),
 )

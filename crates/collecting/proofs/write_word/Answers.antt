@@ -10,7 +10,7 @@ use Rattle.collecting.proofs.write_word.Goals as goal
 
 pub write_columns-requires : goal.write_columns-requires
 write_columns-requires c = let a = c.args in record {
-  columns_len = (c.turn-masks.ensures.sized, c.requires.laid.1);
+  w_bound = c.requires.laid.1;
   w_in_bounds = subst (λ (l : List ℕ). a.at + length l ≤ length a.arguments.now) (sym (columns_list_lem a.rows.now (set_of a.literals) a.w _ _ c.turn-masks.ensures)) c.requires.w_in_bounds;
 }
 

@@ -13,5 +13,5 @@ returns-then-new-old c = bears_none _ c.args.i _ _ _ _ c.head-head.result c.body
 pub returns : goal.returns
 returns c = bears_more _ c.args.i c.args.keep.now _ _ _ c.head-head.result c.body-body.ensures
     c.need.ensures c.requires.needs_one c.requires.i_bound c.join-all.ensures c.head-head.ensures c.if-new-old.false
-    (omega (arith, c.head-head.ensures, c.requires.shaped.literals c.args.i c.requires.i_bound, c.requires.keep_len))
+    (omega (arith, c.head-head.ensures, c.requires.shaped.literals c.args.i c.requires.i_bound, c.told-keep))
     (or_lt 64 (get_or c.args.keep.now c.head-head.result 0) c.join-all.result (search rules) (search rules))

@@ -3,6 +3,6 @@ use Rattle.derivation.proofs.Tables.{limits_shaped}
 use Rattle.closing.proofs.Masks.{limits_needs}
 use Rattle.decision.proofs.sized.query.Goals as goal
 
-pub plan-ground-requires-clause-shaped : goal.plan-ground-requires-clause-shaped
-plan-ground-requires-clause-shaped c =
+pub plan-ground-requires : goal.plan-ground-requires
+plan-ground-requires c =
     let w = c.requires.held in (limits_shaped w.program _ w.holds w.limits, limits_needs w.program _ w.holds w.limits)
