@@ -1,5 +1,5 @@
 // Whether one argument attacks another, and its kind as a defeater, by the table of rows and the exclusion table.
-ghost use Rattle.std.specs.Prelude.{◌≡◌, ℕ, ◌^◌, ◌<◌};
+ghost use Rattle.std.specs.Prelude.{◌≡◌, ℕ, ◌^◌, ◌<◌, ◌≤◌};
 ghost use mathlib.Core.List.{List, Memᴰ};
 ghost use Rattle.literals.specs.Inside.Words.{set_of};
 ghost use Rattle.program.specs.Program.{Program};
@@ -13,7 +13,7 @@ ghost use Rattle.defeat.specs.OfProgram.{tests_of};
 ghost use Rattle.preference.specs.Preference.{preferred_test};
 ghost use Rattle.defeat.specs.Inside.Exclusions.{Numbers, Ready};
 ghost use Rattle.defeat.specs.Inside.Kinds.{number_of_kind};
-ghost use Rattle.defeat.specs.Inside.Steps.{AttacksBy, attacked_by, kind_among};
+ghost use Rattle.defeat.specs.Inside.Steps.{SomeDerived, AttacksBy, attacked_by, kind_among};
 
 use crate::kinds::Kind;
 use argument::numbers;
@@ -25,9 +25,22 @@ pub fn attacks(rows: &[u64], exclusions: &[u64; 256], x: u32, y: u32) -> bool
     requires { Laid rows.now }
     ensures { AttacksBy exclusions.now rows.now x y result }
 {
+    let excluded = excluded::entry(exclusions, numbers::literal_of(x));
     let mask = numbers::mask_of(y);
-    for literal in excluded::entry(exclusions, numbers::literal_of(x)) {
-        if closures::derives(rows, literal, mask) {
+    if some_derived(rows, excluded.lo, 0, mask) {
+        return true;
+    }
+    some_derived(rows, excluded.hi, 64, mask)
+}
+
+// The mask derives a literal of a word, the first of which is literal `first`. Tried: one loop over the set, which takes up to a
+// quarter more instructions a query.
+fn some_derived(rows: &[u64], word: u64, first: u64, mask: u64) -> bool
+    requires { (Laid rows.now) × (first ≤ 64) }
+    ensures { SomeDerived rows.now word first mask result }
+{
+    for bit in masks::bits(word) {
+        if closures::derives(rows, first + bit, mask) {
             return true;
         }
     }

@@ -1,11 +1,16 @@
 -- What the private steps of the code compute.
-use Rattle.std.specs.Prelude.{◌≡◌, Bool, true, not, ◌&&◌, List, ℕ}
+use Rattle.std.specs.Prelude.{◌≡◌, Bool, true, not, ◌&&◌, List, ℕ, ◌+◌}
 use Rattle.lists.specs.Lists.{any}
 use Rattle.literals.specs.Sets.{has, within}
 use Rattle.argument.specs.Argument.{mask_of, literal_of}
 use Rattle.closures.specs.Inside.Table.{tells}
 use Rattle.excluded.specs.Inside.Exclusions.{excluded_by}
 use Rattle.defeat.specs.Tests.{kind_of}
+
+-- some literal first + b, b a member of word, is derived by the mask m
+pub record SomeDerived (rows : List ℕ) (word first m : ℕ) (r : Bool) : Type 0 where
+  pub says : r ≡ true → (b : ℕ) × (has word b ≡ true) × (tells rows (first + b) m ≡ true)
+  pub passes : (b : ℕ) → has word b ≡ true → tells rows (first + b) m ≡ true → r ≡ true
 
 -- by the two tables the literal of x excludes one that the mask of y derives
 pub record AttacksBy (exclusions rows : List ℕ) (x y : ℕ) (r : Bool) : Type 0 where
