@@ -12,12 +12,15 @@ use lib.ListN.{length}
 use lib.Dec.{ltb, eqb}
 use borrow.Author.Tests.{eqb-true, eq-eqb, ne_eqb, lt-ltb, le-ltb, ltb-false, not-false}
 use Rattle.literals.proofs.Tests.{and_left, and_right, or_left, or_right}
-use Rattle.std.specs.Prelude.{None, Some, Ok}
+use Rattle.std.specs.Prelude.{None, Some, Result, Ok}
 use Rattle.layout.specs.declared.Cause.TheVariants.{ImageLength, Header}
 use Rattle.layout.specs.Layout.{number_at, atoms_of, rules_of, pair_count_of, offset_of, size_of}
-use Rattle.layout.specs.Causes.{refused, bad_length, bad_counts, parts_follow, bad_directory}
+use Rattle.layout.specs.Causes.{refused, refuse, and_then, bad_length, bad_counts, parts_follow, bad_directory}
+use Rattle.layout.specs.declared.Refusal.{Refusal}
+use Rattle.layout.specs.declared.header.Counts.{Counts}
+use Rattle.lists.specs.Lists.{choose}
 use Rattle.layout.specs.declared.cursor.Cursor.{Cursor}
-use Rattle.layout.specs.Inside.Steps.{cursor_at, header_of, follow_from, Along, PartAt, Located}
+use Rattle.layout.specs.Inside.Steps.{cursor_at, header_read, header_of, follow_from, Along, PartAt, Located}
 use Rattle.layout.proofs.Cursors.{Follow-is, follow_is, broken_is}
 
 -- ---- neither of two tests
@@ -171,6 +174,12 @@ module _ (s : List ℕ) (c : Cursor) (ends i : ℕ) (a : Along s c ends i) where
       go (yes e) = let f = a.far in eq-eqb ends (length s) e ∙ sym (ap not (directory_kept s (omega arith) (last ∙ eq-eqb ends (length s) e)))
       go (no n) = ne_eqb ends (length s) n ∙ sym (ap not (directory_broken s (last ∙ ne_eqb ends (length s) n)))
 
+-- ---- the counts with the cursor after them, or cause 2
+abbrev pub header_with : (atoms rules pairs zeros : ℕ) → Cursor → Result (Counts × Cursor) Refusal
+header_with atoms rules pairs zeros next =
+    choose (ltb 64 atoms || (ltb 96 rules || (ltb 240 pairs || not (eqb zeros 0)))) (refused Header 0)
+    (Ok (record { atoms = atoms; rules = rules; pairs = pairs }, next))
+
 -- ---- one law for each answer of the header
 module _ (s : List ℕ) where
   header_long_lem : bad_length s ≡ true → refused ImageLength 0 ≡ header_of s
@@ -187,17 +196,26 @@ module _ (s : List ℕ) where
     pub length_fine : bad_length s ≡ false
     length_fine = neither (le-ltb (length s) 12 long) (le-ltb 1836 (length s) short)
 
+    -- by the counts that are read
+    pub header_fields : (atoms rules pairs zeros : ℕ) (next : Cursor) → atoms ≡ atoms_of s → rules ≡ rules_of s → pairs ≡ pair_count_of s → zeros ≡ number_at s 6 → next.at ≡ 8 → header_with atoms rules pairs zeros next ≡ header_of s
+    unfolding header_of
+    header_fields atoms rules pairs zeros next ea er ep ez en =
+        let q : next ≡ cursor_at 8 = ap cursor_at en in
+        rw (length_fine, ea, er, ep, ez, q) (go (bad_counts s))
+      where
+        go : (b : Bool) → choose b (refused Header 0) (Ok (header_read s)) ≡ and_then (refuse b Header 0) (Ok (header_read s))
+        go true = refl
+        go false = refl
+
     module _ (atoms rules pairs zeros : ℕ) (ea : atoms ≡ atoms_of s) (er : rules ≡ rules_of s) (ep : pairs ≡ pair_count_of s) (ez : zeros ≡ number_at s 6) where
       abbrev over : Bool
       over = ltb 64 atoms || (ltb 96 rules || (ltb 240 pairs || not (eqb zeros 0)))
 
-      counts_are : over ≡ bad_counts s
-      counts_are = rw (ea, er, ep, ez) refl
-
       -- one of the four tests refuses the counts, or none
       pub header_bad : (64 < atoms) ⊎ ((atoms ≤ 64 × 96 < rules) ⊎ ((atoms ≤ 64 × rules ≤ 96 × 240 < pairs) ⊎ (atoms ≤ 64 × rules ≤ 96 × pairs ≤ 240 × (zeros ≡ 0 → ⊥)))) → refused Header 0 ≡ header_of s
-      unfolding header_of
-      header_bad h = rw (length_fine, ← counts_are, go h) refl
+      header_bad h =
+          ap (λ (b : Bool). choose b (refused Header 0) (Ok (record { atoms = atoms; rules = rules; pairs = pairs }, cursor_at 8))) (sym (go h))
+          ∙ header_fields atoms rules pairs zeros (cursor_at 8) ea er ep ez refl
         where
           go : (64 < atoms) ⊎ ((atoms ≤ 64 × 96 < rules) ⊎ ((atoms ≤ 64 × rules ≤ 96 × 240 < pairs) ⊎ (atoms ≤ 64 × rules ≤ 96 × pairs ≤ 240 × (zeros ≡ 0 → ⊥)))) → over ≡ true
           go (inl h) = or_left _ _ (lt-ltb 64 atoms h)
@@ -206,8 +224,7 @@ module _ (s : List ℕ) where
           go (inr (inr (inr h))) = or_right (ltb 64 atoms) _ (or_right (ltb 96 rules) _ (or_right (ltb 240 pairs) _ (ap not (ne_eqb zeros 0 h.3))))
 
       pub header_fine : atoms ≤ 64 → rules ≤ 96 → pairs ≤ 240 → zeros ≡ 0 → (next : Cursor) → next.at ≡ 8 → Ok (record { atoms = atoms; rules = rules; pairs = pairs }, next) ≡ header_of s
-      unfolding header_of
       header_fine a r p z next n =
-          let fine : bad_counts s ≡ false = sym counts_are ∙ neither (le-ltb 64 atoms a) (neither (le-ltb 96 rules r) (neither (le-ltb 240 pairs p) (ap not (eq-eqb zeros 0 z)))) in
-          let q : next ≡ cursor_at 8 = ap cursor_at n in
-          rw (length_fine, fine, ea, er, ep, q) refl
+          let fine : over ≡ false = neither (le-ltb 64 atoms a) (neither (le-ltb 96 rules r) (neither (le-ltb 240 pairs p) (ap not (eq-eqb zeros 0 z)))) in
+          ap (λ (b : Bool). choose b (refused Header 0) (Ok (record { atoms = atoms; rules = rules; pairs = pairs }, next))) (sym fine)
+          ∙ header_fields atoms rules pairs zeros next ea er ep ez n

@@ -91,3 +91,10 @@ module _ (part : List ℕ) (atoms before place : ℕ) where
                 go : (k ≡ 1 × before < 16) ⊎ (k ≡ 1 → ⊥) → bad_seventeenth before part ≡ false
                 go (inl m) = rw (← is, eq-eqb k 1 m.0) (lt-leb 16 before m.1)
                 go (inr n) = rw (← is, ne_eqb k 1 n) refl
+
+        -- of a strict rule nothing more is asked
+        pub strict_read : kind_byte part ≡ 0 → (set : LiteralSet) → BodyRead (Ok set) (body_bytes part) (2 * atoms) place → (h : ℕ) → h ≡ head_byte part → RuleRead part atoms before place (record { defeasible = false; head = h; body = set })
+        strict_read z set read h same = rule_read set read h same 0 (sym z) (inr not_one) (inr not_one)
+          where
+            not_one : ◌≡◌ {A = ℕ} 0 1 → ⊥
+            not_one e = omega (arith, e)
