@@ -1,20 +1,33 @@
-use mathlib.Core.Path.{sym, ap, subst, ◌∙◌}
+use mathlib.Core.Path.{sym, ◌∙◌}
 use mathlib.Core.Bool.{true, false}
-use Prim.Native.Nat.{ℕ}
-use Rattle.literals.specs.declared.masks.Ascending.{Ascending}
-use Rattle.defeat.specs.Inside.Steps.{SomeDerived}
+use native.Mathlib.Omega.{arith}
+use Rattle.literals.proofs.Members.{minus_less}
 use Rattle.defeat.proofs.Searching.{some_none, some_here, some_more}
 use Rattle.defeat.proofs.defeaters.some_derived.Goals as goal
 
-pub loop-bit-init : goal.loop-bit-init
-loop-bit-init c = λ r m. subst (λ (n : ℕ). SomeDerived c.args.rows.now n c.args.first c.args.mask r)
-    (ap (λ (i : Ascending). i.left) c.into_iter-bit-iterator.ensures.into_iter_gives ∙ c.bits-bit-items.ensures) m
+pub loop-left-init : goal.loop-left-init
+loop-left-init c = λ r m. m
+
+pub lowest-requires : goal.lowest-requires
+lowest-requires c = c.loop-left-test.true
+
+pub overflow_add-first : goal.overflow_add-first
+overflow_add-first c = omega (arith, c.lowest.ensures.small, c.requires.1)
+
+pub derives-requires : goal.derives-requires
+derives-requires c = (c.requires.0, omega (arith, c.lowest.ensures.small, c.requires.1))
 
 pub returns-then-derives : goal.returns-then-derives
-returns-then-derives c = c.loop-bit.invariant true (some_here c.args.rows.now c.loop-bit.bit-iterator.left c.args.first c.args.mask c.in-Some.bit c.in-Some.ensures.steps.0.member (sym c.derives.ensures ∙ c.if-derives.true))
+returns-then-derives c = c.loop-left.invariant true (some_here c.args.rows.now c.loop-left.left c.args.first c.args.mask c.lowest.result c.lowest.ensures.member (sym c.derives.ensures ∙ c.if-derives.true))
 
-pub loop-bit-preserved : goal.loop-bit-preserved
-loop-bit-preserved c = λ r m. c.loop-bit.invariant r (some_more c.args.rows.now c.loop-bit.bit-iterator.left c.args.first c.args.mask c.in-Some.bit r (sym c.derives.ensures ∙ c.if-derives.false) (rw c.in-Some.ensures.steps.1 at m))
+pub rest-left-requires : goal.rest-left-requires
+rest-left-requires c = c.loop-left-test.true
+
+pub loop-left-smaller : goal.loop-left-smaller
+loop-left-smaller c = rw (c.rest-left.ensures _ c.lowest.ensures) (minus_less c.loop-left.left c.lowest.result c.lowest.ensures.member)
+
+pub loop-left-preserved : goal.loop-left-preserved
+loop-left-preserved c = λ r m. c.loop-left.invariant r (some_more c.args.rows.now c.loop-left.left c.args.first c.args.mask c.lowest.result r (sym c.derives.ensures ∙ c.if-derives.false) (rw (c.rest-left.ensures _ c.lowest.ensures) at m))
 
 pub returns : goal.returns
-returns c = c.loop-bit.invariant false (some_none c.args.rows.now c.loop-bit.bit-iterator.left c.args.first c.args.mask c.in-None.ensures.steps.0)
+returns c = c.loop-left.invariant false (some_none c.args.rows.now c.loop-left.left c.args.first c.args.mask c.loop-left-test.false)

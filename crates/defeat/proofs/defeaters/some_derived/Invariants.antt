@@ -3,5 +3,8 @@ use mathlib.Core.Bool.{Bool}
 use Rattle.defeat.specs.Inside.Steps.{SomeDerived}
 use Rattle.defeat.proofs.defeaters.some_derived.Given as goal
 
-abbrev pub invariant-loop-bit : goal.invariant-loop-bit
-invariant-loop-bit l = (r : Bool) → SomeDerived l.rows l.bit-iterator.left l.first l.mask r → SomeDerived l.rows l.fn.word l.first l.mask r
+abbrev pub invariant-loop-left : goal.invariant-loop-left
+invariant-loop-left l = (r : Bool) → SomeDerived l.rows l.left l.first l.mask r → SomeDerived l.rows l.word l.first l.mask r
+
+abbrev pub decreases-loop-left : goal.decreases-loop-left
+decreases-loop-left l = l.left
