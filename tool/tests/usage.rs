@@ -267,6 +267,8 @@ fn nothing_is_written_over_the_program() {
         }
     }
     assert_eq!(std::fs::read_to_string(&program).unwrap(), text);
+    // The gate takes no checkout with a link in it.
+    std::fs::remove_file(&soft).unwrap();
 }
 
 #[test]
