@@ -8,7 +8,7 @@ ghost use Rattle.calls.specs.Calls.{queried, query_arguments, query_nodes};
 
 use answer::Answer;
 pub use calls::{check, list};
-use layout::Refusal;
+pub use layout::{Cause, Refusal};
 use nodes::Node;
 use tree::nodes::Columns;
 
