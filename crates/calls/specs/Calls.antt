@@ -118,7 +118,8 @@ verdict_number v = refusal_number (cause_of v) (place_of v)
 abbrev pub check_call : List ℕ → ℕ
 check_call s = verdict_number (check_image s)
 
--- the argument count, or the length of what a call wrote, or a cause with its place
+-- the argument count, or the length of what a call wrote, "its length is returned where nothing else is"; or a cause with its
+-- place
 abbrev pub count_number : Outcome ℕ → ℕ
 count_number l = refusal_number (cause_in l) (value_in l)
 
