@@ -2,9 +2,11 @@
 // literals. A read or a write that fails ends it with a line on standard error.
 #![tactic(auto)]
 
-ghost use Rattle.std.specs.Prelude.{◌≤◌, length, IfOk};
+ghost use Rattle.std.specs.Prelude.{◌≡◌, ◌+◌, ◌*◌, ◌≤◌, length, IfOk};
+ghost use Rattle.std.specs.Option.{ForSome};
+ghost use Rattle.answer.specs.Answer.{code_of, nodes_of};
 
-use nodes::Node;
+use answer::Answer;
 use std::io;
 use std::io::{Print, Read};
 
@@ -58,22 +60,30 @@ fn answers(rt: &impl Print, image: &[u8]) -> io::Result<()> {
         return Ok(());
     };
     for literal in 0..2 * u32::from(*atoms) {
-        answer(rt, image, literal)?;
+        answer(rt, literal, foqtirel::foqtirel_query(image, literal, 4096))?;
     }
     Ok(())
 }
 
-// A literal's number, its answer and the nodes.
-fn answer(rt: &impl Print, image: &[u8], literal: u32) -> io::Result<()> {
-    let mut arguments = [0u32; 4096];
-    let mut nodes = [Node {
-        argument: 0,
-        parent: 0,
-        kind: 0,
-        mark: 0,
-    }; 4096];
-    match warrant::query(image, literal, 4096, &mut arguments, &mut nodes) {
-        Ok(answer) => println!(rt; "{literal} {answer}"),
-        Err(refusal) => println!(rt; "{literal} {refusal}"),
+// A literal's number, its answer and the nodes, of what the C call returns.
+fn answer(rt: &impl Print, literal: u32, packed: u32) -> io::Result<()> {
+    match unpacked(packed) {
+        Some(answer) => println!(rt; "{literal} {answer}"),
+        None => println!(rt; "{literal} refused {packed}"),
+    }
+}
+
+// The answer that is packed in a number, with its nodes; none in a refusal's.
+fn unpacked(packed: u32) -> Option<Answer>
+    ensures { ForSome result (λ a. code_of a * 65536 + nodes_of a ≡ packed) }
+{
+    let nodes = packed % 65536;
+    match packed / 65536 {
+        1 => Some(Answer::Yes { nodes }),
+        2 => Some(Answer::No { nodes }),
+        3 => Some(Answer::Undecided { nodes }),
+        4 if nodes == 0 => Some(Answer::Unknown),
+        5 => Some(Answer::Unfinished { nodes }),
+        _ => None,
     }
 }

@@ -15,9 +15,8 @@ use Rattle.program.specs.Inside.Table.{Holds}
 use Rattle.derivation.specs.Derivation.{complement}
 use Rattle.excluded.specs.Inside.Exclusions.{Excluded, Conclusions}
 use Rattle.tree.specs.declared.candidates.Framework.{Framework}
-use Rattle.tree.specs.declared.nodes.Columns.{Columns}
 use Rattle.tree.specs.Entries.{Entry}
-use Rattle.tree.specs.Inside.Tables.{Hold}
+use Rattle.tree.specs.Inside.Tables.{Columns, Hold}
 use Rattle.tree.specs.Inside.Steps.{Prepared}
 use Rattle.tree.specs.Inside.Roots.{RootsReady, ForestBuilt, ForestOver}
 use Rattle.tree.proofs.Tables.{column_front, columns_same}
@@ -52,12 +51,13 @@ module _ (f : Framework) (w : Held f.table.now) (l : Listing w f.rows.now f.argu
   }
 
   pub roots_ready : (h budget : ℕ) (t : Columns) (line : List ℕ) → Asked f.table.now h budget t → 4096 ≤ length line
-      → RootsReady f line 0 budget
+      → RootsReady f line 0 budget t
   roots_ready h budget t line a k = record {
     prepared = prepared;
     below = omega arith;
     budget = a.budget_below;
     line_holds = le_trans a.budget_below k;
+    tables_hold = a.tables_hold;
   }
 
 -- what a forest within the budget or past it says
@@ -68,8 +68,8 @@ GrownOf p h b before after r = MatchOption r
 
 -- the number of nodes is the budget at most
 pub grown_small : (p : Program) (h b : ℕ) (before after : Columns) (r : Option Grown) → GrownOf p h b before after r
-    → ForSome r (λ g. g.nodes ≤ b)
-grown_small p h b before after r k g e = (rw e at k).built.within
+    → b ≤ 4096 → ForSome r (λ g. g.nodes ≤ 4097)
+grown_small p h b before after r k le g e = omega (arith, (rw e at k).built.within, le)
 
 -- ---- the answer
 
@@ -142,4 +142,5 @@ module _ (p : Program) (h b : ℕ) where
     pub decided : (after : Columns) → Hold b before → (g : Option Grown) → GrownOf p h b before after g → {r : Answer} {last : Columns}
         → r ≡ concluded g b → last ≡ cleared_unless g b after → Decided p h b r before last
     decided after hold None over e z = rw (e, z) (decided_over over)
-    decided after hold (Some g) built e z = rw (e, z) (decided_within built hold)
+    decided after hold (Some g) built e z =
+        rw (e, z, le-ltb b g.nodes built.built.within) (decided_within built hold)

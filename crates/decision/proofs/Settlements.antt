@@ -13,7 +13,7 @@ use Rattle.program.specs.Program.{Program}
 use Rattle.argument.specs.List.{argument_list}
 use Rattle.listing.specs.Inside.Listing.{listed, with_list}
 use Rattle.closures.specs.Inside.Table.{Laid, Tells}
-use Rattle.tree.specs.declared.nodes.Columns.{Columns}
+use Rattle.tree.specs.Inside.Tables.{Columns}
 use Rattle.answer.specs.declared.Answer.{Answer}
 use Rattle.answer.specs.Answer.{answer}
 use Rattle.decision.specs.Inside.Steps.{Held, Listing, Decided, Settled}

@@ -1,5 +1,6 @@
 // From the argument list to the answer: the forest in its tables, then its outcome.
 ghost use Rattle.std.specs.Prelude.{◌+◌, ◌^◌, ◌<◌, length, MatchOption};
+ghost use Rattle.tree.specs.Inside.Tables.{held, Kept};
 ghost use Rattle.tree.specs.Inside.Roots.{ForestBuilt, ForestOver};
 ghost use Rattle.answer.specs.Answer.{tests};
 ghost use Rattle.decision.specs.Inside.Steps.{Held, Asked, Plans, Listing, Decidable, Decided, Settles};
@@ -31,12 +32,13 @@ pub fn settle(
     arguments: &mut [u32],
     literal: u64,
     budget: u32,
-    columns: &mut Columns,
+    columns: &mut Columns<'_>,
 ) -> Option<Answer>
-    requires asked { Asked table.now literal budget columns.old }
+    requires asked { Asked table.now literal budget (held columns.old) }
     requires plans { Plans table.now plan }
     requires span_in_bounds { (plan.ground.end + plan.ground.span < length rows.old) × (length rows.old < 2 ^ 32) }
-    ensures { Settles table.now literal budget result arguments.old arguments.new columns.old columns.new }
+    ensures settles { Settles table.now literal budget result arguments.old arguments.new (held columns.old) (held columns.new) }
+    ensures kept { Kept columns.old columns.new }
 {
     closing::fill(plan.live, plan.ground, plan.keep, plan.base, rows);
     let reached = plan.ground.derived.union(plan.ground.literals);
@@ -58,11 +60,12 @@ fn decide(
     arguments: &[u32],
     literal: u64,
     budget: u32,
-    columns: &mut Columns,
+    columns: &mut Columns<'_>,
 ) -> Answer
-    requires { Decidable table.now rows.now arguments.now literal budget columns.old }
-    ensures { (w : Held table.now) → Listing w rows.now arguments.now
-        → Decided w.program literal budget result columns.old columns.new }
+    requires { Decidable table.now rows.now arguments.now literal budget (held columns.old) }
+    ensures decided { (w : Held table.now) → Listing w rows.now arguments.now
+        → Decided w.program literal budget result (held columns.old) (held columns.new) }
+    ensures kept { Kept columns.old columns.new }
 {
     if !occurs(table, literal) {
         return Answer::Unknown;
@@ -78,12 +81,13 @@ fn grow(
     arguments: &[u32],
     literal: u64,
     budget: u32,
-    columns: &mut Columns,
+    columns: &mut Columns<'_>,
 ) -> Option<Grown>
-    requires { Decidable table.now rows.now arguments.now literal budget columns.old }
-    ensures { (w : Held table.now) → Listing w rows.now arguments.now → MatchOption result
-        (ForestOver (tests w.program) literal budget columns.old columns.new)
-        (λ g. ForestBuilt (tests w.program) literal budget g.nodes g.won g.lost columns.old columns.new) }
+    requires { Decidable table.now rows.now arguments.now literal budget (held columns.old) }
+    ensures grown { (w : Held table.now) → Listing w rows.now arguments.now → MatchOption result
+        (ForestOver (tests w.program) literal budget (held columns.old) (held columns.new))
+        (λ g. ForestBuilt (tests w.program) literal budget g.nodes g.won g.lost (held columns.old) (held columns.new)) }
+    ensures kept { Kept columns.old columns.new }
 {
     let mut exclusions = [0u64; 256];
     let conclusions = excluded::conclusions(arguments);

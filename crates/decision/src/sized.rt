@@ -1,6 +1,7 @@
 // The answer with a table of rows of its own, in one of four sizes: a program whose rows are short neither clears nor reserves a
 // megabyte.
 ghost use Rattle.std.specs.Prelude.{◌+◌, ◌^◌, ◌<◌};
+ghost use Rattle.tree.specs.Inside.Tables.{held, Kept};
 ghost use Rattle.decision.specs.Inside.Steps.{Asked, Plans, Settles};
 
 use crate::answering::{Plan, settle};
@@ -15,10 +16,11 @@ pub fn query(
     arguments: &mut [u32],
     literal: u64,
     budget: u32,
-    columns: &mut Columns,
+    columns: &mut Columns<'_>,
 ) -> Option<Answer>
-    requires { Asked table.now literal budget columns.old }
-    ensures { Settles table.now literal budget result arguments.old arguments.new columns.old columns.new }
+    requires { Asked table.now literal budget (held columns.old) }
+    ensures settles { Settles table.now literal budget result arguments.old arguments.new (held columns.old) (held columns.new) }
+    ensures kept { Kept columns.old columns.new }
 {
     let mut live = [0u64; 419];
     let mut keep = [0u64; 128];
@@ -51,12 +53,13 @@ fn with_rows<const N: usize>(
     arguments: &mut [u32],
     literal: u64,
     budget: u32,
-    columns: &mut Columns,
+    columns: &mut Columns<'_>,
 ) -> Option<Answer>
-    requires asked { Asked table.now literal budget columns.old }
+    requires asked { Asked table.now literal budget (held columns.old) }
     requires plans { Plans table.now plan }
     requires room { (plan.ground.end + plan.ground.span < N) × (N < 2 ^ 32) }
-    ensures { Settles table.now literal budget result arguments.old arguments.new columns.old columns.new }
+    ensures settles { Settles table.now literal budget result arguments.old arguments.new (held columns.old) (held columns.new) }
+    ensures kept { Kept columns.old columns.new }
 {
     let mut rows = [0u64; N];
     settle(table, plan, &mut rows, arguments, literal, budget, columns)

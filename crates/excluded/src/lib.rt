@@ -33,7 +33,9 @@ impl LaidRules<'_> {
     fn fill(&self, rows: &mut [u64; 256])
         ensures { Rows self.now.rules.now self.now.keep.now self.now.base.now rows.old rows.new }
     {
-        rows::fill(self.rules, self.keep, self.base, rows);
+        let keep = self.keep;
+        let base = self.base;
+        rows::fill(self.rules, keep, base, rows);
     }
 }
 

@@ -2,6 +2,7 @@
 // root, and a root's step is the supporter's.
 ghost use Rattle.std.specs.Prelude.{◌≡◌, ◌<◌, MatchOption};
 ghost use Rattle.derivation.specs.Derivation.{complement as «complement_of»};
+ghost use Rattle.tree.specs.Inside.Tables.{held, Kept};
 ghost use Rattle.tree.specs.Inside.Steps.{Prepared, tests_in};
 ghost use Rattle.tree.specs.Inside.Roots.{RootsReady, TreesBuilt, ForestBuilt, TreesOver, ForestOver};
 
@@ -41,12 +42,13 @@ fn trees(
     line: &mut [u32],
     at: usize,
     limit: usize,
-    columns: &mut Columns,
+    columns: &mut Columns<'_>,
 ) -> Option<Rooted>
-    requires { RootsReady framework.now line.old at limit }
-    ensures { (w : Prepared framework.now) → MatchOption result
-        (TreesOver (tests_in w) literal at limit columns.old columns.new)
-        (λ r. TreesBuilt (tests_in w) literal at limit r.next r.undefeated columns.old columns.new) }
+    requires { RootsReady framework.now line.old at limit (held columns.old) }
+    ensures built { (w : Prepared framework.now) → MatchOption result
+        (TreesOver (tests_in w) literal at limit (held columns.old) (held columns.new))
+        (λ r. TreesBuilt (tests_in w) literal at limit r.next r.undefeated (held columns.old) (held columns.new)) }
+    ensures kept { Kept columns.old columns.new }
 {
     let mut undefeated = false;
     let mut next = at;
@@ -75,13 +77,14 @@ pub fn forest(
     literal: u64,
     line: &mut [u32],
     limit: usize,
-    columns: &mut Columns,
+    columns: &mut Columns<'_>,
 ) -> Option<Grown>
-    requires roots_ready { RootsReady framework.now line.old 0 limit }
+    requires roots_ready { RootsReady framework.now line.old 0 limit (held columns.old) }
     requires literal_bound { literal < 128 }
-    ensures { (w : Prepared framework.now) → MatchOption result
-        (ForestOver (tests_in w) literal limit columns.old columns.new)
-        (λ g. ForestBuilt (tests_in w) literal limit g.nodes g.won g.lost columns.old columns.new) }
+    ensures built { (w : Prepared framework.now) → MatchOption result
+        (ForestOver (tests_in w) literal limit (held columns.old) (held columns.new))
+        (λ g. ForestBuilt (tests_in w) literal limit g.nodes g.won g.lost (held columns.old) (held columns.new)) }
+    ensures kept { Kept columns.old columns.new }
 {
     let first = trees(framework, literal, line, 0, limit, columns)?;
     let second = trees(

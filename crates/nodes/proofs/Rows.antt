@@ -10,7 +10,7 @@ use lib.Seq.{drop-cons, append_snoc, set_at}
 use Rattle.lists.specs.Lists.{upto}
 use Rattle.lists.proofs.Lists.{upto_length, upto_last, upto_shift}
 use Rattle.tree.specs.Entries.{Entry}
-use Rattle.tree.specs.declared.nodes.Columns.{Columns}
+use Rattle.tree.specs.Inside.Tables.{Columns}
 use Rattle.answer.specs.Tables.{front, zeroed}
 use Rattle.nodes.specs.declared.Node.{Node}
 use Rattle.nodes.specs.Nodes.{node_of}

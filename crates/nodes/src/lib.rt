@@ -2,6 +2,7 @@
 #![tactic(auto)]
 
 ghost use Rattle.std.specs.Prelude.{◌≡◌, ◌<◌, ◌≤◌, length};
+ghost use Rattle.tree.specs.Inside.Tables.{held, Hold};
 ghost use Rattle.answer.specs.Tables.{front};
 ghost use Rattle.nodes.specs.Inside.Rows.{row_at, rows};
 
@@ -19,9 +20,9 @@ pub struct Node {
 }
 
 // Row i of the four tables.
-fn row(columns: &Columns, i: usize) -> Node
-    requires { i < 4096 }
-    ensures { result ≡ row_at columns.now i }
+fn row(columns: &Columns<'_>, i: usize) -> Node
+    requires { (i < length columns.now.indexes.now) × (i < length columns.now.parents.now) × (i < length columns.now.kinds.now) × (i < length columns.now.marks.now) }
+    ensures { result ≡ row_at (held columns.now) i }
 {
     Node {
         argument: columns.indexes[i],
@@ -33,9 +34,9 @@ fn row(columns: &Columns, i: usize) -> Node
 
 // Writes the first n rows of the four tables to the front of the node table.
 #[tactic(auto, using(crate::proofs::Rows::front_rows_next))]
-pub fn write(nodes: &mut [Node], columns: &Columns, n: usize)
-    requires { (n ≤ length nodes.old) × (n ≤ 4096) }
-    ensures { nodes.new ≡ front (rows n columns.now) nodes.old }
+pub fn write(nodes: &mut [Node], columns: &Columns<'_>, n: usize)
+    requires { (n ≤ length nodes.old) × Hold n (held columns.now) }
+    ensures { nodes.new ≡ front (rows n (held columns.now)) nodes.old }
 {
     for i in 0..n {
         nodes[i] = row(columns, i);

@@ -11,11 +11,18 @@ ghost use Rattle.calls.specs.Calls.{refusal_number, verdict_number, count_number
 use answer::Answer;
 use layout::Refusal;
 
-// A cause with its place: number * 2^32 + place.
-fn refused(refusal: Refusal) -> u64
-    ensures { result ≡ refusal_number (number_of refusal.cause) refusal.place }
+// A cause's number with its place, whatever number it is: number * 2^32 + place.
+pub fn refusal(number: u32, place: u32) -> u64
+    ensures { result ≡ refusal_number number place }
 {
-    (refusal.cause.number() as u64) * 0x1_0000_0000 + (refusal.place as u64)
+    (number as u64) * 0x1_0000_0000 + (place as u64)
+}
+
+// A cause with its place.
+fn refused(refused: Refusal) -> u64
+    ensures { result ≡ refusal_number (number_of refused.cause) refused.place }
+{
+    refusal(refused.cause.number(), refused.place)
 }
 
 // An answer: code * 65,536 + nodes.

@@ -28,7 +28,7 @@ pub const PLACES: [u64; 6] = [
 ];
 
 // Fills the rows, from what they have: rounds over the rules, the last of which changes no row that a rule has read by then.
-pub fn fill(table: &RuleTable, keep: &[u64; 128], base: &[u64; 128], rows: &mut [u64])
+pub fn fill(table: &RuleTable, keep: &[u64], base: &[u64], rows: &mut [u64])
     requires shaped { Shaped table.now }
     requires needs_one { NeedsOne table.now }
     requires bearing { Bearing table.now keep.now }
@@ -48,7 +48,7 @@ pub fn clear(words: &mut [u64])
 }
 
 // Each rule once, in table order. A row changed that a rule had read by then.
-fn round(table: &RuleTable, keep: &[u64; 128], base: &[u64; 128], rows: &mut [u64]) -> bool
+fn round(table: &RuleTable, keep: &[u64], base: &[u64], rows: &mut [u64]) -> bool
     requires shaped { Shaped table.now }
     requires needs_one { NeedsOne table.now }
     requires placed { Placed table.now keep.now base.now (length rows.old) }
@@ -66,7 +66,7 @@ fn round(table: &RuleTable, keep: &[u64; 128], base: &[u64; 128], rows: &mut [u6
 }
 
 // Rule i for all masks: for each word of its head's row, in descending order.
-fn fire(table: &RuleTable, i: u64, keep: &[u64; 128], base: &[u64; 128], rows: &mut [u64]) -> bool
+fn fire(table: &RuleTable, i: u64, keep: &[u64], base: &[u64], rows: &mut [u64]) -> bool
     requires shaped { (Shaped table.now) × (NeedsOne table.now) }
     requires i_bound { i < rule_count table.now }
     requires placed { Placed table.now keep.now base.now (length rows.old) }
@@ -96,8 +96,8 @@ fn fire_word(
     low: u64,
     must: u64,
     to: u64,
-    keep: &[u64; 128],
-    base: &[u64; 128],
+    keep: &[u64],
+    base: &[u64],
     rows: &mut [u64],
 ) -> bool
     requires decoded { Decoded table.now base.now i (set_of body) low must to }
@@ -122,14 +122,15 @@ fn fire_word(
 
 // The masks of the start for which the rows have each literal of a set.
 fn meet(
-    keep: &[u64; 128],
-    base: &[u64; 128],
+    keep: &[u64],
+    base: &[u64],
     rows: &[u64],
     w: u64,
     literals: LiteralSet,
     start: u64,
 ) -> u64
-    requires { Readable keep.now base.now (length rows.now) (set_of literals) }
+    requires keep_len { (length keep.now ≡ 128) × (length base.now ≡ 128) }
+    requires readable { Readable keep.now base.now (length rows.now) (set_of literals) }
     ensures { Met (word_of keep.now base.now rows.now w) (set_of literals) start result }
 {
     let mut x = start;

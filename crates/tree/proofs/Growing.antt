@@ -13,8 +13,7 @@ use Rattle.defeat.specs.Tests.{Tests}
 use Rattle.tree.specs.Reply.{reply_kind}
 use Rattle.tree.specs.Forest.{Forest, none, tree, size, all_defeated, mark_of, from, replies}
 use Rattle.tree.specs.Entries.{Entry, entry_of, preorder}
-use Rattle.tree.specs.declared.nodes.Columns.{Columns}
-use Rattle.tree.specs.Inside.Tables.{opened, closed, Fits, Over}
+use Rattle.tree.specs.Inside.Tables.{Columns, opened, closed, Fits, Over}
 use Rattle.tree.specs.Inside.Steps.{tree_entries, settled_by}
 use Rattle.tree.proofs.Forest.{from_skip_at, from_take_at, replies_unroll}
 use Rattle.tree.proofs.Entries.{preorder_length, preorder_first}

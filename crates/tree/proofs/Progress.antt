@@ -6,8 +6,7 @@ use native.Mathlib.Omega.{arith}
 use lib.ListN.{length, length-append}
 use lib.Seq.{drop-set-lt}
 use Rattle.tree.specs.Entries.{Entry}
-use Rattle.tree.specs.declared.nodes.Columns.{Columns}
-use Rattle.tree.specs.Inside.Tables.{written, opened, closed, past, Fits, Over}
+use Rattle.tree.specs.Inside.Tables.{Columns, written, opened, closed, past, Fits, Over}
 use Rattle.lists.proofs.Stores.{set_sets}
 use Rattle.tree.proofs.Tables.{columns_same, written_append, written_past}
 

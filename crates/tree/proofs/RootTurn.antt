@@ -11,12 +11,10 @@ use Rattle.std.specs.Prelude.{None}
 use Rattle.lists.proofs.Lists.{within_nil}
 use Rattle.argument.specs.Argument.{literal_of}
 use Rattle.tree.specs.declared.candidates.Framework.{Framework}
-use Rattle.tree.specs.declared.nodes.Columns.{Columns}
 use Rattle.tree.specs.declared.nodes.Step.{Step}
-use Rattle.tree.specs.Inside.Tables.{Fits, Over}
+use Rattle.tree.specs.Inside.Tables.{Columns, Hold, Fits, Over}
 use Rattle.tree.specs.Inside.Steps.{tree_entries, Prepared, tests_in, Ready}
 use Rattle.tree.specs.Inside.Roots.{RootsReady, TreesBuilt, TreesOver}
-use Rattle.tree.proofs.Tables.{fits_marks}
 use Rattle.tree.proofs.Growing.{tree_room}
 use Rattle.tree.proofs.Listings.{prepared_listing}
 use Rattle.tree.proofs.Trees.{Rooting, rooting_start, rooting_skip, rooting_end, rooting_over, rooting_step}
@@ -25,18 +23,18 @@ use Rattle.tree.proofs.Trees.{Rooting, rooting_start, rooting_skip, rooting_end,
 -- the beginning.
 pub record RootTurn (f : Framework) (h : ℕ) (line₀ : List ℕ) (at limit : ℕ) (t₀ : Columns)
     (line : List ℕ) (t : Columns) (found : Bool) (next start : ℕ) : Type 0 where
-  pub ready : RootsReady f line₀ at limit
+  pub ready : RootsReady f line₀ at limit t₀
   pub line_long : length line ≡ length line₀
-  pub marks_hold : limit ≤ length t.marks
+  pub tables_hold : Hold limit t
   pub high : next ≤ limit
   pub rooting : (w : Prepared f) → Rooting (tests_in w) h at limit t₀ start next found t
 
 pub root_turn_start : {f : Framework} (h : ℕ) {line : List ℕ} {at limit : ℕ} {t : Columns}
-    → RootsReady f line at limit → limit ≤ length t.marks → RootTurn f h line at limit t line t false at 0
-root_turn_start h {at = at} {limit = limit} {t = t} r m = record {
+    → RootsReady f line at limit t → RootTurn f h line at limit t line t false at 0
+root_turn_start h {at = at} {limit = limit} {t = t} r = record {
   ready = r;
   line_long = refl;
-  marks_hold = m;
+  tables_hold = r.tables_hold;
   high = r.below;
   rooting = λ w. rooting_start (tests_in w) (prepared_listing w) h at limit t r.below;
 }
@@ -60,12 +58,12 @@ module _ {f : Framework} {h : ℕ} {line₀ : List ℕ} {at limit : ℕ} {t₀ :
     root_turn_skip n = record {
       ready = T.ready;
       line_long = T.line_long;
-      marks_hold = T.marks_hold;
+      tables_hold = T.tables_hold;
       high = T.high;
       rooting = λ w. rooting_skip (tests_in w) (prepared_listing w) h at limit t₀ (T.rooting w) inside n;
     }
 
-    pub root_ready : Ready f line (root_step start next) limit
+    pub root_ready : Ready f line (root_step start next) limit t
     root_ready = record {
       prepared = T.ready.prepared;
       on_line = within_nil _;
@@ -78,6 +76,7 @@ module _ {f : Framework} {h : ℕ} {line₀ : List ℕ} {at limit : ℕ} {t₀ :
       below = T.high;
       budget = T.ready.budget;
       line_holds = omega (arith, T.line_long, T.ready.line_holds);
+      tables_hold = T.tables_hold;
     }
 
     module _ (is_for : literal_of x ≡ h) {after : Columns} where
@@ -88,30 +87,32 @@ module _ {f : Framework} {h : ℕ} {line₀ : List ℕ} {at limit : ℕ} {t₀ :
 
       module _ {end : ℕ} (fits : (w : Prepared f) → Fits (tree_entries (tests_in w) [] x 0 next next) next limit end t after) where
         -- the root's mark can be read
-        pub root_turn_mark : next < 4096
-        root_turn_mark =
+        pub root_turn_mark : Hold limit after → next < length after.marks
+        root_turn_mark hold =
             let w = T.ready.prepared in
             let b = fits w in
-            omega (arith, tree_room (tests_in w) [] x 0 next next b, b.within, T.ready.budget)
+            omega (arith, tree_room (tests_in w) [] x 0 next next b, b.within, hold.marks_hold)
 
-        pub root_turn_step : (line' : List ℕ) (found' : Bool) → length line' ≡ length line
+        pub root_turn_step : (line' : List ℕ) (found' : Bool) → length line' ≡ length line → Hold limit after
             → found' ≡ (found || eqb (get_or after.marks next 0) 1)
             → RootTurn f h line₀ at limit t₀ line' after found' end (start + 1)
-        root_turn_step line' found' nl e = record {
+        root_turn_step line' found' nl hold e = record {
           ready = T.ready;
           line_long = nl ∙ T.line_long;
-          marks_hold = omega (arith, T.marks_hold, fits_marks (fits T.ready.prepared));
+          tables_hold = hold;
           high = (fits T.ready.prepared).within;
           rooting = λ w. rw e
-              (rooting_step (tests_in w) (prepared_listing w) h at limit t₀ (T.rooting w) inside is_for (fits w) T.marks_hold);
+              (rooting_step (tests_in w) (prepared_listing w) h at limit t₀ (T.rooting w) inside is_for (fits w) T.tables_hold.marks_hold);
         }
 
 -- the same after some trees were written
-pub roots_moved : {f : Framework} {line : List ℕ} {at limit : ℕ} → RootsReady f line at limit
-    → (line' : List ℕ) (next : ℕ) → next ≤ limit → length line' ≡ length line → RootsReady f line' next limit
-roots_moved r line' next le n = record {
+pub roots_moved : {f : Framework} {line : List ℕ} {at limit : ℕ} {t : Columns} → RootsReady f line at limit t
+    → (line' : List ℕ) (next : ℕ) → next ≤ limit → length line' ≡ length line → {t' : Columns} → Hold limit t'
+    → RootsReady f line' next limit t'
+roots_moved r line' next le n hold = record {
   prepared = r.prepared;
   below = le;
   budget = r.budget;
   line_holds = omega (arith, n, r.line_holds);
+  tables_hold = hold;
 }

@@ -14,6 +14,7 @@ use Rattle.tree.specs.declared.candidates.Framework.{Framework}
 use Rattle.tree.specs.declared.candidates.Reply.{Reply}
 use Rattle.tree.specs.declared.nodes.Step.{Step}
 use Rattle.tree.specs.Reply.{mine, theirs, last_kind}
+use Rattle.tree.specs.Inside.Tables.{Columns, Hold}
 use Rattle.tree.specs.Inside.Steps.{line_of, masks_of, tests_in, argument_of, answered, Ready, Asked, FirstReply}
 use Rattle.tree.proofs.Reply.{reply_last}
 
@@ -49,7 +50,7 @@ within_more : {l m : List ℕ} (x : ℕ) → Memᴰ x m → Within l m → Withi
 within_more {l} {m} x i w y (Memᴰ.head e) = subst (λ (z : ℕ). Memᴰ z m) (sym e) i
 within_more {l} {m} x i w y (Memᴰ.tail j) = w y j
 
-module _ {f : Framework} {before : List ℕ} {s : Step} {limit : ℕ} (ready : Ready f before s limit)
+module _ {f : Framework} {before : List ℕ} {s : Step} {limit : ℕ} {t : Columns} (ready : Ready f before s limit t)
     (line : List ℕ) (more : line_of line (s.depth + 1) ≡ argument_of f s ∷ line_of before s.depth) where
   on_line_more : Within (line_of line (s.depth + 1)) f.arguments.now
   on_line_more = rw more
@@ -67,8 +68,9 @@ module _ {f : Framework} {before : List ℕ} {s : Step} {limit : ℕ} (ready : R
 
   -- what a reply's step is asked: the sides change places
   pub ready_reply : {start next : ℕ} {r : Reply} → FirstReply f line s start r → s.at < next → next ≤ limit
-      → limit ≤ length line → Ready f line (answered s (union s.own (mask_of (argument_of f s))) r next) limit
-  ready_reply {r = r} first low high long = record {
+      → limit ≤ length line → {t' : Columns} → Hold limit t'
+      → Ready f line (answered s (union s.own (mask_of (argument_of f s))) r next) limit t'
+  ready_reply {r = r} first low high long hold = record {
     prepared = ready.prepared;
     on_line = on_line_more;
     own_masks = ready.other_masks ∙ ap (λ (l : List ℕ). masks_of (theirs l)) (sym more);
@@ -85,4 +87,5 @@ module _ {f : Framework} {before : List ℕ} {s : Step} {limit : ℕ} (ready : R
     below = high;
     budget = ready.budget;
     line_holds = long;
+    tables_hold = hold;
   }

@@ -1,14 +1,14 @@
 -- Entries written into the four tables of a forest, one run after another: what is written and what is left make up the
 -- whole.
-use mathlib.Core.Path.{◌≡◌, ap, ◌∙◌}
+use mathlib.Core.Path.{◌≡◌, refl, ap, ◌∙◌}
 use mathlib.Core.List.{List, ◌∷◌, ◌++◌, map, map-append}
 use Prim.Native.Nat.{ℕ, ◌+◌, ◌≤◌, ◌<◌}
 use native.Mathlib.Omega.{arith}
-use lib.ListN.{length, get_or, drop, length-map}
-use lib.Seq.{sets, sets-eq, length-sets}
+use lib.ListN.{length, get_or, set, drop, length-map, length-set}
+use lib.Seq.{sets, sets-eq}
 use Rattle.tree.specs.Entries.{Entry}
-use Rattle.tree.specs.declared.nodes.Columns.{Columns}
-use Rattle.tree.specs.Inside.Tables.{written, past, Fits}
+use Rattle.tree.specs.declared.nodes.Columns.{Columns as Lent}
+use Rattle.tree.specs.Inside.Tables.{Columns, held, Kept, Hold, written, past}
 use Rattle.lists.proofs.Stores.{sets_append, drop_sets, get_d_first}
 
 -- ---- one column
@@ -59,8 +59,50 @@ pub written_mark : (e : Entry) (es : List Entry) (at : ℕ) (before after : Colu
 written_mark e es at before after h lt =
     ap (λ (t : Columns). get_or t.marks at 0) h ∙ get_d_first before.marks at e.mark (map (λ e. e.mark) es) lt
 
--- a table is as long as it was
-pub fits_marks : {es : List Entry} {at limit r : ℕ} {before after : Columns} → Fits es at limit r before after
-    → length after.marks ≡ length before.marks
-fits_marks {es} {at} {before = before} f =
-    ap (λ (t : Columns). length t.marks) f.tables_are ∙ length-sets before.marks at (map (λ e. e.mark) es)
+-- ---- the room in lent tables
+
+pub hold_kept : {n : ℕ} {before after : Lent} → Kept before after → Hold n (held before) → Hold n (held after)
+hold_kept k h = record {
+  indexes_hold = omega (arith, h.indexes_hold, k.indexes_long);
+  parents_hold = omega (arith, h.parents_hold, k.parents_long);
+  kinds_hold = omega (arith, h.kinds_hold, k.kinds_long);
+  marks_hold = omega (arith, h.marks_hold, k.marks_long);
+}
+
+pub kept_none : (t : Lent) → Kept t t
+kept_none t = record {
+  indexes_same = refl;
+  parents_same = refl;
+  kinds_same = refl;
+  marks_same = refl;
+  indexes_long = refl;
+  parents_long = refl;
+  kinds_long = refl;
+  marks_long = refl;
+}
+
+pub kept_then : {t u v : Lent} → Kept t u → Kept u v → Kept t v
+kept_then k l = record {
+  indexes_same = l.indexes_same ∙ k.indexes_same;
+  parents_same = l.parents_same ∙ k.parents_same;
+  kinds_same = l.kinds_same ∙ k.kinds_same;
+  marks_same = l.marks_same ∙ k.marks_same;
+  indexes_long = l.indexes_long ∙ k.indexes_long;
+  parents_long = l.parents_long ∙ k.parents_long;
+  kinds_long = l.kinds_long ∙ k.kinds_long;
+  marks_long = l.marks_long ∙ k.marks_long;
+}
+
+-- a mark is stored
+pub kept_marked : {t u : Lent} → Kept t u → (at mark : ℕ)
+    → Kept t (record u { marks = record u.marks { now = set u.marks.now at mark } })
+kept_marked {u = u} k at mark = record {
+  indexes_same = k.indexes_same;
+  parents_same = k.parents_same;
+  kinds_same = k.kinds_same;
+  marks_same = k.marks_same;
+  indexes_long = k.indexes_long;
+  parents_long = k.parents_long;
+  kinds_long = k.kinds_long;
+  marks_long = length-set u.marks.now at mark ∙ k.marks_long;
+}

@@ -17,8 +17,7 @@ use Rattle.defeat.specs.Tests.{Tests}
 use Rattle.tree.specs.Forest.{Forest, none, tree, size, mark_of, replies, forest_of, undefeated_root}
 use Rattle.tree.specs.Entries.{Entry, entries}
 use Rattle.tree.specs.OfLiteral.{arguments_for, forest, forest_entries, warranted}
-use Rattle.tree.specs.declared.nodes.Columns.{Columns}
-use Rattle.tree.specs.Inside.Tables.{Fits, Over}
+use Rattle.tree.specs.Inside.Tables.{Columns, Fits, Over}
 use Rattle.tree.specs.Inside.Steps.{tree_entries}
 use Rattle.tree.specs.Inside.Roots.{trees_entries, TreesBuilt, ForestBuilt, TreesOver, ForestOver}
 use Rattle.tree.proofs.Entries.{preorder_length, entries_length, entries_first, entries_roots}

@@ -12,14 +12,12 @@ use Rattle.defeat.specs.Inside.Kinds.{number_of, number_of_kind}
 use Rattle.defeat.proofs.Kind.{number_some}
 use Rattle.tree.specs.declared.candidates.Framework.{Framework}
 use Rattle.tree.specs.declared.candidates.Reply.{Reply}
-use Rattle.tree.specs.declared.nodes.Columns.{Columns}
 use Rattle.tree.specs.declared.nodes.Step.{Step}
 use Rattle.tree.specs.Reply.{reply_kind}
 use Rattle.tree.specs.Forest.{replies}
 use Rattle.tree.specs.Entries.{Entry, preorder}
-use Rattle.tree.specs.Inside.Tables.{opened, closed, Fits, Over}
+use Rattle.tree.specs.Inside.Tables.{Columns, Hold, opened, closed, Fits, Over}
 use Rattle.tree.specs.Inside.Steps.{line_of, tree_entries, settled_by, Prepared, tests_in, argument_of, answered, Ready, Asked, NoReply, FirstReply, Enters, Entered}
-use Rattle.tree.proofs.Tables.{fits_marks}
 use Rattle.tree.proofs.Growing.{Going, going_start, going_pass, going_end, going_over, going_step, tree_room, tree_none, tree_over, tree_end}
 use Rattle.tree.proofs.Steps.{line_more, line_less, ready_asked, ready_reply}
 use Rattle.tree.proofs.Listings.{prepared_count, prepared_listing}
@@ -32,12 +30,12 @@ below_entries t l at = preorder (index_in t.arguments) (suc at) at (replies t l)
 -- The candidates before `start` are done, the tables are t, `next` is the next free number.
 pub record Turn (f : Framework) (line₀ : List ℕ) (s : Step) (limit : ℕ) (t₀ : Columns) (joined : ℕ)
     (line : List ℕ) (t : Columns) (mark next start : ℕ) : Type 0 where
-  pub ready : Ready f line₀ s limit
+  pub ready : Ready f line₀ s limit t₀
   pub joined_is : joined ≡ union s.own (mask_of (argument_of f s))
   pub room : s.at < limit
   pub line_is : line_of line (s.depth + 1) ≡ argument_of f s ∷ line_of line₀ s.depth
   pub line_long : length line ≡ length line₀
-  pub marks_hold : limit ≤ length t.marks
+  pub tables_hold : Hold limit t
   pub low : s.at < next
   pub high : next ≤ limit
   pub start_in : start ≤ length f.arguments.now
@@ -47,36 +45,37 @@ pub record Turn (f : Framework) (line₀ : List ℕ) (s : Step) (limit : ℕ) (t
 
 -- ---- a step begins
 
-module _ {f : Framework} {line : List ℕ} {s : Step} {limit : ℕ} (ready : Ready f line s limit) where
+module _ {f : Framework} {line : List ℕ} {s : Step} {limit : ℕ} {t : Columns} (ready : Ready f line s limit t) where
   -- no number is left
-  pub turn_none : limit ≤ s.at → (t : Columns)
-      → ((w : Prepared f)
+  pub turn_none : limit ≤ s.at → ((w : Prepared f)
       → Over (tree_entries (tests_in w) (line_of line s.depth) (argument_of f s) (number_of_kind s.kind) s.at s.parent) s.at limit t t)
-  turn_none h t w =
+  turn_none h w =
       tree_none (tests_in w) (prepared_listing w) (line_of line s.depth) s.index s.parent (number_of_kind s.kind) s.at limit ready.in_list t h
 
   module _ (room : s.at < limit) where
     line_room : s.depth < length line
     line_room = let d = ready.deep in let l = ready.line_holds in omega arith
 
-    pub turn_enters : Enters line s
+    pub turn_enters : Enters line s t
     turn_enters = record {
       line_holds = line_room;
-      tables_hold = let b = ready.budget in omega arith;
+      indexes_hold = omega (arith, ready.tables_hold.indexes_hold);
+      parents_hold = omega (arith, ready.tables_hold.parents_hold);
+      kinds_hold = omega (arith, ready.tables_hold.kinds_hold);
       index_fits = let i = ready.in_list in omega (arith, prepared_count ready.prepared);
       parent_fits = let p = ready.parent_in in let b = ready.budget in omega arith;
     }
 
-    pub turn_start : (joined : ℕ) → joined ≡ union s.own (mask_of (argument_of f s)) → {line' : List ℕ} {t t' : Columns}
-        → Entered line line' s (argument_of f s) t t' → limit ≤ length t.marks
+    pub turn_start : (joined : ℕ) → joined ≡ union s.own (mask_of (argument_of f s)) → {line' : List ℕ} {t' : Columns}
+        → Entered line line' s (argument_of f s) t t' → Hold limit t'
         → Turn f line s limit t joined line' t' 1 (s.at + 1) 0
-    turn_start joined ej {t = t} e hold = record {
+    turn_start joined ej e hold = record {
       ready = ready;
       joined_is = ej;
       room = room;
       line_is = ap (λ (l : List ℕ). line_of l (s.depth + 1)) e.line_is ∙ line_more line s.depth (argument_of f s) line_room;
       line_long = ap length e.line_is ∙ length-set line s.depth (argument_of f s);
-      marks_hold = rw (e.tables_are) hold;
+      tables_hold = hold;
       low = omega arith;
       high = omega arith;
       start_in = omega arith;
@@ -124,11 +123,11 @@ module _ {f : Framework} {line₀ : List ℕ} {s : Step} {limit : ℕ} {t₀ : C
     turn_less = omega (arith, first.low, first.in_list)
 
     -- the other side's step is asked less: m is what this one has left
-    pub turn_ready : {m : ℕ} → limit - s.at ≡ m → (limit - next < m) × Ready f line (answered s joined r next) limit
+    pub turn_ready : {m : ℕ} → limit - s.at ≡ m → (limit - next < m) × Ready f line (answered s joined r next) limit t
     turn_ready left = (
       omega (arith, T.room, T.low, T.high),
       rw (T.joined_is)
-          (ready_reply T.ready line T.line_is first T.low T.high (let h = T.ready.line_holds in omega (arith, T.line_long))),
+          (ready_reply T.ready line T.line_is first T.low T.high (let h = T.ready.line_holds in omega (arith, T.line_long)) T.tables_hold),
     )
 
     passed : (w : Prepared f) → Going (tests_in w) l s.at limit o r.index next mark t
@@ -172,23 +171,23 @@ module _ {f : Framework} {line₀ : List ℕ} {s : Step} {limit : ℕ} {t₀ : C
         turn_high = (below T.ready.prepared).within
 
         -- so its mark can be read
-        pub turn_mark : next < 4096
-        turn_mark = omega (arith, turn_room, turn_high, T.ready.budget)
+        pub turn_mark : Hold limit t' → next < length t'.marks
+        turn_mark hold = omega (arith, turn_room, turn_high, hold.marks_hold)
 
         pub turn_step : (line' : List ℕ) {mark' : ℕ} → line_of line' (s.depth + 1) ≡ line_of line (s.depth + 1)
-            → length line' ≡ length line → mark' ≡ settled_by mark (get_or t'.marks next 0)
+            → length line' ≡ length line → Hold limit t' → mark' ≡ settled_by mark (get_or t'.marks next 0)
             → Turn f line₀ s limit t₀ joined line' t' mark' end (r.index + 1)
-        turn_step line' kept nl em = record {
+        turn_step line' kept nl hold em = record {
           ready = T.ready;
           joined_is = T.joined_is;
           room = T.room;
           line_is = kept ∙ T.line_is;
           line_long = nl ∙ T.line_long;
-          marks_hold = omega (arith, T.marks_hold, fits_marks (below T.ready.prepared));
+          tables_hold = hold;
           low = omega (arith, T.low, turn_room);
           high = turn_high;
           start_in = omega (arith, first.in_list);
           going = λ w. rw em
               (going_step (tests_in w) (prepared_listing w) l s.at limit o (passed w) first.in_list (number_of r.kind) (kind_on w) (number_some r.kind)
-              (fits_on w) T.marks_hold);
+              (fits_on w) T.tables_hold.marks_hold);
         }

@@ -1,19 +1,19 @@
 // A step's node: its place on the line, its entry in the tables, and its mark.
 ghost use Rattle.std.specs.Prelude.{◌≡◌, ◌<◌};
 ghost use Rattle.defeat.specs.Inside.Kinds.{number_of_kind};
-ghost use Rattle.tree.specs.Inside.Tables.{opened};
+ghost use Rattle.tree.specs.Inside.Tables.{held, Kept};
 ghost use Rattle.tree.specs.Inside.Steps.{number_of_mark, settled_by, answered, Enters, Entered};
 
 use crate::candidates::Reply;
 use defeat::kinds::Kind;
 
-// A forest: one table of numbers for each field of the nodes' entries, each as long as the largest budget.
+// A forest in lent tables: one table of numbers for each field of the nodes' entries.
 #[derive(Drop)]
-pub struct Columns {
-    pub indexes: [u32; 4096],
-    pub parents: [u32; 4096],
-    pub kinds: [u8; 4096],
-    pub marks: [u8; 4096],
+pub struct Columns<'t> {
+    pub indexes: &'t mut [u32],
+    pub parents: &'t mut [u32],
+    pub kinds: &'t mut [u8],
+    pub marks: &'t mut [u8],
 }
 
 // A step on a line: an argument, by its index in the argument list, that replies to the line's last one; a root's has no
@@ -75,9 +75,10 @@ impl Mark {
 }
 
 // Puts a step's argument on the line, and its node's entry but the mark into the tables.
-pub fn enter(line: &mut [u32], columns: &mut Columns, step: Step, argument: u32)
-    requires { Enters line.old step }
-    ensures { Entered line.old line.new step argument columns.old columns.new }
+pub fn enter(line: &mut [u32], columns: &mut Columns<'_>, step: Step, argument: u32)
+    requires { Enters line.old step (held columns.old) }
+    ensures entered { Entered line.old line.new step argument (held columns.old) (held columns.new) }
+    ensures kept { Kept columns.old columns.new }
 {
     line[step.depth] = argument;
     columns.indexes[step.at] = step.index as u32;

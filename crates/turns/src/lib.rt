@@ -2,6 +2,7 @@
 // and marks it.
 #![tactic(auto)]
 
+ghost use Rattle.tree.specs.Inside.Tables.{held, Kept};
 ghost use Rattle.tree.specs.Inside.Steps.{Ready, Leaves};
 
 use argument::numbers::mask_of;
@@ -16,10 +17,11 @@ pub fn supporter(
     line: &mut [u32],
     step: Step,
     limit: usize,
-    columns: &mut Columns,
+    columns: &mut Columns<'_>,
 ) -> Option<usize>
-    requires { Ready framework.now line.old step limit }
-    ensures { Leaves framework.now line.old line.new step limit result columns.old columns.new }
+    requires { Ready framework.now line.old step limit (held columns.old) }
+    ensures leaves { Leaves framework.now line.old line.new step limit result (held columns.old) (held columns.new) }
+    ensures kept { Kept columns.old columns.new }
 {
     if limit <= step.at {
         return None;
@@ -49,10 +51,11 @@ pub fn objector(
     line: &mut [u32],
     step: Step,
     limit: usize,
-    columns: &mut Columns,
+    columns: &mut Columns<'_>,
 ) -> Option<usize>
-    requires { Ready framework.now line.old step limit }
-    ensures { Leaves framework.now line.old line.new step limit result columns.old columns.new }
+    requires { Ready framework.now line.old step limit (held columns.old) }
+    ensures leaves { Leaves framework.now line.old line.new step limit result (held columns.old) (held columns.new) }
+    ensures kept { Kept columns.old columns.new }
 {
     if limit <= step.at {
         return None;

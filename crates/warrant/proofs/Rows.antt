@@ -13,7 +13,7 @@ use Rattle.layout.specs.Reading.{program_in}
 use Rattle.derivation.specs.Derivation.{complement}
 use Rattle.preference.specs.Preference.{preferred_test}
 use Rattle.tree.specs.Entries.{Entry}
-use Rattle.tree.specs.declared.nodes.Columns.{Columns}
+use Rattle.tree.specs.Inside.Tables.{Columns}
 use Rattle.answer.specs.declared.Answer.{Answer}
 use Rattle.answer.specs.declared.Answer.TheVariants.{Yes, No, Undecided, Unknown, Unfinished}
 use Rattle.answer.specs.Answer.{occurs, forest_entries, node_count, warranted, answer_of, answer_by, tests, answer, nodes_of}
@@ -21,12 +21,21 @@ use Rattle.answer.proofs.Answers.{entries_count, answer_nodes_within}
 use Rattle.nodes.specs.declared.Node.{Node}
 use Rattle.nodes.specs.Inside.Rows.{rows}
 use Rattle.nodes.proofs.Rows.{rows_of}
-use Rattle.calls.specs.Outcomes.{Outcome, Given, Refused, by_verdict, nodes_in}
+use Rattle.std.specs.Prelude.{Result, Ok, Err, MatchResult}
+use Rattle.layout.specs.declared.Refusal.{Refusal}
+use Rattle.calls.specs.Outcomes.{Outcome, Given, Refused, by_verdict, nodes_in, outcome_of}
 use Rattle.calls.specs.Calls.{front, query_verdict, queried, nodes_after, nodes_left, node_of, zeroed, query_column}
 use Rattle.calls.specs.Calls.{query_nodes}
 use Rattle.warrant.specs.Inside.Columns.{query_columns}
 use Rattle.calls.proofs.Refusals.{query_accepted}
 use Rattle.warrant.proofs.Calls.{map_replicate}
+
+-- ---- how many rows are written: as many as the answer counts, and none after a refusal
+
+pub nodes_counted : (r : Result Answer Refusal) (n : ℕ) → MatchResult r (λ a. n ≡ nodes_of a) (λ e. n ≡ 0)
+    → n ≡ nodes_in (outcome_of r)
+nodes_counted (Ok a) n h = h
+nodes_counted (Err e) n h = h
 
 -- ---- what an answer leaves
 
@@ -106,12 +115,6 @@ module _ (s : List ℕ) (h b al : ℕ) where
         by 4096 (λ e. le_trans small (query_accepted s h b al nl e).budget_limit),
         by nl (λ e. le_trans small (query_accepted s h b al nl e).node_room_lem),
       )
-
-  -- a refusal leaves the node table as it was
-  pub nodes_refused : (table : List Node) (n place : ℕ) → given (length table) ≡ Refused n place → query_nodes s h b al table ≡ table
-  unfolding query_column
-  nodes_refused table n place e =
-      ap (λ (a : Outcome Answer). nodes_left a (map node_of (forest_entries (tests (program_in s)) h)) (node_of zeroed) table) e
 
   abbrev entries : List Entry
   entries = forest_entries (tests (program_in s)) h

@@ -1,6 +1,6 @@
 // The query over four tables of numbers, one for each field of the node entries.
 ghost use Rattle.std.specs.Prelude.{◌≡◌, length};
-ghost use Rattle.tree.specs.Inside.Tables.{Hold};
+ghost use Rattle.tree.specs.Inside.Tables.{held, Kept, Hold};
 ghost use Rattle.calls.specs.Outcomes.{outcome_of};
 ghost use Rattle.calls.specs.Calls.{queried, query_arguments};
 ghost use Rattle.warrant.specs.Inside.Columns.{query_columns};
@@ -16,12 +16,13 @@ pub fn query(
     budget: u32,
     room: usize,
     arguments: &mut [u32],
-    columns: &mut Columns,
+    columns: &mut Columns<'_>,
 ) -> Result<Answer, Refusal>
-    requires { Hold 4096 columns.old }
-    ensures { (outcome_of result ≡ queried image.now literal budget (length arguments.old) room)
+    requires { Hold 4096 (held columns.old) }
+    ensures answer { (outcome_of result ≡ queried image.now literal budget (length arguments.old) room)
         × (arguments.new ≡ query_arguments image.now literal budget arguments.old room)
-        × (columns.new ≡ query_columns image.now literal budget (length arguments.old) room columns.old) }
+        × (held columns.new ≡ query_columns image.now literal budget (length arguments.old) room (held columns.old)) }
+    ensures kept { Kept columns.old columns.new }
 {
     let mut table = [0u64; 419];
     calls::load(image, &mut table)?;

@@ -25,13 +25,13 @@ pub fn query(
     ensures { (outcome_of result ≡ queried image.now literal budget (length arguments.old) (length nodes.old)) × (arguments.new ≡ query_arguments image.now literal budget arguments.old (length nodes.old)) × (nodes.new ≡ query_nodes image.now literal budget (length arguments.old) nodes.old) }
 {
     let mut columns = Columns {
-        indexes: [0; 4096],
-        parents: [0; 4096],
-        kinds: [0; 4096],
-        marks: [0; 4096],
+        indexes: &mut [0; 4096],
+        parents: &mut [0; 4096],
+        kinds: &mut [0; 4096],
+        marks: &mut [0; 4096],
     };
     let room = nodes.len();
-    let answer = columns::query(image, literal, budget, room, arguments, &mut columns)?;
-    nodes::write(nodes, &columns, answer.nodes() as usize);
-    Ok(answer)
+    let answered = columns::query(image, literal, budget, room, arguments, &mut columns);
+    nodes::write(nodes, &columns, answered.map_or(0, Answer::nodes) as usize);
+    answered
 }

@@ -1,7 +1,7 @@
 -- What an answer leaves in four tables of numbers, one for each field of the node entries.
 use Rattle.std.specs.Prelude.{List, ℕ, replicate}
 use Rattle.tree.specs.Entries.{Entry}
-use Rattle.tree.specs.declared.nodes.Columns.{Columns}
+use Rattle.tree.specs.Inside.Tables.{Columns}
 use Rattle.answer.specs.declared.Answer.{Answer}
 use Rattle.answer.specs.Tables.{front, column_after}
 

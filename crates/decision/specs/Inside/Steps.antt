@@ -9,9 +9,8 @@ use Rattle.argument.specs.List.{argument_list}
 use Rattle.listing.specs.Inside.Listing.{with_list}
 use Rattle.closures.specs.Inside.Table.{Laid, Tells}
 use Rattle.closing.specs.Inside.Plan.{Planned, PlanOf}
-use Rattle.tree.specs.declared.nodes.Columns.{Columns}
 use Rattle.tree.specs.Entries.{Entry}
-use Rattle.tree.specs.Inside.Tables.{Hold}
+use Rattle.tree.specs.Inside.Tables.{Columns, Hold}
 use Rattle.answer.specs.declared.Answer.{Answer}
 use Rattle.answer.specs.Answer.{tests, forest_entries, answer}
 use Rattle.answer.specs.Inside.Columns.{columns_after}

@@ -1,7 +1,7 @@
 -- Node entries as the rows of four tables of numbers, one for each field.
 use Rattle.std.specs.Prelude.{List, map, ℕ, get_or}
 use Rattle.lists.specs.Lists.{upto}
-use Rattle.tree.specs.declared.nodes.Columns.{Columns}
+use Rattle.tree.specs.Inside.Tables.{Columns}
 use Rattle.nodes.specs.declared.Node.{Node}
 
 -- entry i of each table, together

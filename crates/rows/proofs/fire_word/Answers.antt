@@ -23,8 +23,8 @@ pub returns-then-must-w : goal.returns-then-must-w
 returns-then-must-w c = word_skip _ _ _ c.args.i c.args.w _
     (ap (λ (m : ℕ). within m c.args.w) (sym c.requires.decoded.must_is) ∙ ne_eqb (bit_and c.args.must c.args.w) c.args.must c.if-must-w.true)
 
-pub meet-ready-requires : goal.meet-ready-requires
-meet-ready-requires c = apart_reads _ _ _ c.args.i c.args.w _ _ c.args.low c.args.must c.args.to c.requires.decoded c.requires.placed
+pub meet-ready-requires-clause-readable : goal.meet-ready-requires-clause-readable
+meet-ready-requires-clause-readable c = apart_reads _ _ _ c.args.i c.args.w _ _ c.args.low c.args.must c.args.to c.requires.decoded c.requires.placed
 
 pub overflow_add-at : goal.overflow_add-at
 overflow_add-at c = omega (arith, index (goal.at.overflow_add-at c).Start)

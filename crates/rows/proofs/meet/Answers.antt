@@ -13,7 +13,7 @@ module _ (c : In-Some) where
   index : get_or c.args.base.now c.in-Some.literal 0 + bit_and c.args.w (get_or c.args.keep.now c.in-Some.literal 0)
       < length c.args.rows.now
   index =
-      let readable = c.requires c.in-Some.literal
+      let readable = c.requires.readable c.in-Some.literal
       (within_each (set_of c.loop-literal.literal-iterator.left) (set_of c.args.literals) c.loop-literal.invariant.1 c.in-Some.literal c.in-Some.ensures.steps.0.member) in
       omega (arith, readable.1, and_le_r c.args.w (get_or c.args.keep.now c.in-Some.literal 0))
 

@@ -4,19 +4,19 @@ use Rattle.lists.specs.Lists.{index_in}
 use Rattle.derivation.specs.Derivation.{complement}
 use Rattle.defeat.specs.Tests.{Tests}
 use Rattle.tree.specs.declared.candidates.Framework.{Framework}
-use Rattle.tree.specs.declared.nodes.Columns.{Columns}
 use Rattle.tree.specs.Forest.{forest_of}
 use Rattle.tree.specs.Entries.{Entry, entries}
 use Rattle.tree.specs.OfLiteral.{arguments_for, forest_entries, warranted}
-use Rattle.tree.specs.Inside.Tables.{Fits, Over}
+use Rattle.tree.specs.Inside.Tables.{Columns, Hold, Fits, Over}
 use Rattle.tree.specs.Inside.Steps.{Prepared}
 
--- what is asked before trees are written from number `at` on: "a budget of 0 to 4,096 nodes", and a line with room for as many
-pub record RootsReady (f : Framework) (line : List ℕ) (at limit : ℕ) : Type 0 where
+-- what is asked before trees are written from number `at` on: "a budget of 0 to 4,096 nodes", and a line and tables with room for as many
+pub record RootsReady (f : Framework) (line : List ℕ) (at limit : ℕ) (t : Columns) : Type 0 where
   pub prepared : Prepared f
   pub below : at ≤ limit
   pub budget : limit ≤ 4096
   pub line_holds : limit ≤ length line
+  pub tables_hold : Hold limit t
 
 -- the entries of the trees of the arguments for h, from number `at` on
 abbrev pub trees_entries : Tests ℕ → (h at : ℕ) → List Entry

@@ -12,14 +12,13 @@ use Rattle.defeat.specs.Inside.Kinds.{number_of, number_of_kind}
 use Rattle.defeat.specs.OfProgram.{tests_of}
 use Rattle.tree.specs.declared.candidates.Framework.{Framework}
 use Rattle.tree.specs.declared.candidates.Reply.{Reply}
-use Rattle.tree.specs.declared.nodes.Columns.{Columns}
 use Rattle.tree.specs.declared.nodes.Mark.{Mark}
 use Rattle.tree.specs.declared.nodes.Mark.TheVariants.{Undefeated, Defeated}
 use Rattle.tree.specs.declared.nodes.Step.{Step}
 use Rattle.tree.specs.Reply.{mine, theirs, reply_kind, last_kind}
 use Rattle.tree.specs.Forest.{none, tree, replies}
 use Rattle.tree.specs.Entries.{Entry, preorder}
-use Rattle.tree.specs.Inside.Tables.{opened, Built}
+use Rattle.tree.specs.Inside.Tables.{Columns, Hold, opened, Built}
 
 -- a table holds the line with its root first; as a list its last argument is first
 abbrev pub line_of : List ℕ → (depth : ℕ) → List ℕ
@@ -61,7 +60,7 @@ argument_of f s = get_or f.arguments.now s.index 0
 
 -- what a step is asked. The line so far is that of its parent: `own` has the masks of its side on the line, `other` those of
 -- the other side.
-pub record Ready (f : Framework) (line : List ℕ) (s : Step) (limit : ℕ) : Type 0 where
+pub record Ready (f : Framework) (line : List ℕ) (s : Step) (limit : ℕ) (t : Columns) : Type 0 where
   pub prepared : Prepared f
   pub on_line : Within (line_of line s.depth) f.arguments.now
   pub own_masks : s.own ≡ masks_of (theirs (line_of line s.depth))
@@ -73,6 +72,7 @@ pub record Ready (f : Framework) (line : List ℕ) (s : Step) (limit : ℕ) : Ty
   pub below : s.at ≤ limit
   pub budget : limit ≤ 4096
   pub line_holds : limit ≤ length line
+  pub tables_hold : Hold limit t
 
 -- what a step leaves, r being its result: the tree of the argument is built below its parent, from number `at` on, and the line
 -- up to the argument is as it was
@@ -115,10 +115,12 @@ pub record FirstReply (f : Framework) (line : List ℕ) (s : Step) (start : ℕ)
   pub none_before : NoReply f line s start r.index
   pub kind_is : (w : Prepared f) → number_of r.kind ≡ reply_kind (tests_in w) (line_of line (s.depth + 1)) (get_or f.arguments.now r.index 0)
 
--- what is asked before a node is entered: each table has its place, and the numbers fit
-pub record Enters (line : List ℕ) (s : Step) : Type 0 where
+-- what is asked before a node is entered: each table that gets a number has its place, and the numbers fit
+pub record Enters (line : List ℕ) (s : Step) (t : Columns) : Type 0 where
   pub line_holds : s.depth < length line
-  pub tables_hold : s.at < 4096
+  pub indexes_hold : s.at < length t.indexes
+  pub parents_hold : s.at < length t.parents
+  pub kinds_hold : s.at < length t.kinds
   pub index_fits : s.index < 2 ^ 32
   pub parent_fits : s.parent < 2 ^ 32
 

@@ -1,8 +1,30 @@
 -- A forest in tables: one table of numbers for each field of the nodes' entries.
 use Rattle.std.specs.Prelude.{◌≡◌, List, map, ℕ, ◌+◌, ◌<◌, ◌≤◌, length, drop, set, Option, Some, None}
 use Rattle.std.proofs.lemmas.List.Edits.{sets}
-use Rattle.tree.specs.declared.nodes.Columns.{Columns}
+use Rattle.tree.specs.declared.nodes.Columns.{Columns as Lent}
 use Rattle.tree.specs.Entries.{Entry}
+
+-- the four tables as lists
+pub record Columns : Type 0 where
+  pub indexes : List ℕ
+  pub parents : List ℕ
+  pub kinds : List ℕ
+  pub marks : List ℕ
+
+-- what lent tables hold
+abbrev pub held : Lent → Columns
+held c = record { indexes = c.indexes.now; parents = c.parents.now; kinds = c.kinds.now; marks = c.marks.now }
+
+-- the lent tables are the same ones, so that their owner finds in them what was written, and each is as long as it was
+pub record Kept (before after : Lent) : Type 0 where
+  pub indexes_same : after.indexes.ghost_name ≡ before.indexes.ghost_name
+  pub parents_same : after.parents.ghost_name ≡ before.parents.ghost_name
+  pub kinds_same : after.kinds.ghost_name ≡ before.kinds.ghost_name
+  pub marks_same : after.marks.ghost_name ≡ before.marks.ghost_name
+  pub indexes_long : length after.indexes.now ≡ length before.indexes.now
+  pub parents_long : length after.parents.now ≡ length before.parents.now
+  pub kinds_long : length after.kinds.now ≡ length before.kinds.now
+  pub marks_long : length after.marks.now ≡ length before.marks.now
 
 -- the tables with the entries from node number `at` on, and all else as it was
 abbrev pub written : ℕ → List Entry → Columns → Columns

@@ -2,6 +2,7 @@
 -- budget that is left.
 use Prim.Native.Nat.{◌-◌}
 use lib.ListN.{length}
+use Rattle.tree.specs.Inside.Tables.{held, Kept}
 use Rattle.tree.specs.Inside.Steps.{number_of_mark}
 use Rattle.tree.proofs.Turn.{Turn}
 use Rattle.turns.proofs.+objector_supporter.Given as goal
@@ -11,7 +12,8 @@ decreases-supporter l = l.limit - l.step.at
 
 abbrev pub invariant-supporter-loop-objection : goal.invariant-supporter-loop-objection
 invariant-supporter-loop-objection l =
-    Turn l.framework l.fn.line l.step l.limit l.fn.columns l.supports l.line l.columns (number_of_mark l.mark) l.next l.start
+    Turn l.framework l.fn.line l.step l.limit (held l.fn.columns) l.supports l.line (held l.columns) (number_of_mark l.mark) l.next l.start
+    × Kept l.fn.columns l.columns
 
 abbrev pub decreases-supporter-loop-objection : goal.decreases-supporter-loop-objection
 decreases-supporter-loop-objection l = length l.framework.arguments.now - l.start
@@ -21,7 +23,8 @@ decreases-objector l = l.limit - l.step.at
 
 abbrev pub invariant-objector-loop-support : goal.invariant-objector-loop-support
 invariant-objector-loop-support l =
-    Turn l.framework l.fn.line l.step l.limit l.fn.columns l.objections l.line l.columns (number_of_mark l.mark) l.next l.start
+    Turn l.framework l.fn.line l.step l.limit (held l.fn.columns) l.objections l.line (held l.columns) (number_of_mark l.mark) l.next l.start
+    × Kept l.fn.columns l.columns
 
 abbrev pub decreases-objector-loop-support : goal.decreases-objector-loop-support
 decreases-objector-loop-support l = length l.framework.arguments.now - l.start

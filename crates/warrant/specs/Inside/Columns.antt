@@ -1,6 +1,6 @@
 -- The query over four tables of numbers, one for each field of the node entries.
 use Rattle.std.specs.Prelude.{List, ℕ}
-use Rattle.tree.specs.declared.nodes.Columns.{Columns}
+use Rattle.tree.specs.Inside.Tables.{Columns}
 use Rattle.tree.specs.Entries.{Entry}
 use Rattle.answer.specs.declared.Answer.{Answer}
 use Rattle.calls.specs.Outcomes.{Outcome}

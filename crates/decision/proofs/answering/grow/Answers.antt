@@ -23,7 +23,10 @@ forest-requires-clause-roots_ready c =
     _ _ _ _ c.requires.asked (omega arith)
 
 pub returns : goal.returns
-returns c = λ w l.
-    c.forest.ensures
-    (prepared _ w l _ c.conclusions-conclusions.ensures
-    (λ p holds. c.fill.ensures refl p holds (c.close-derived.ensures p holds ∙ ap (closure (Π_mask 0 p.rules)) c.empty.ensures ∙ ap (λ (l : List Rule). closure l 0) (Π_mask_empty p.rules))))
+returns c = record {
+  grown = λ w l.
+      c.forest.ensures.built
+      (prepared _ w l _ c.conclusions-conclusions.ensures
+      (λ p holds. c.fill.ensures refl p holds (c.close-derived.ensures p holds ∙ ap (closure (Π_mask 0 p.rules)) c.empty.ensures ∙ ap (λ (l : List Rule). closure l 0) (Π_mask_empty p.rules))));
+  kept = c.forest.ensures.kept;
+}
