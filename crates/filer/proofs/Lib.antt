@@ -1,6 +1,7 @@
 -- The laws of the writer's steps.
 pub mod Comparisons
 pub mod Insertions
+pub mod Rotations
 pub mod Arrangements
 pub mod Rules
 pub mod Renumberings

@@ -33,7 +33,6 @@ fn row(columns: &Columns<'_>, i: usize) -> Node
 }
 
 // Writes the first n rows of the four tables to the front of the node table.
-#[tactic(auto, using(crate::proofs::Rows::front_rows_next))]
 pub fn write(nodes: &mut [Node], columns: &Columns<'_>, n: usize)
     requires { (n ≤ length nodes.old) × Hold n (held columns.now) }
     ensures { nodes.new ≡ front (rows n (held columns.now)) nodes.old }

@@ -121,14 +121,7 @@ fn fire_word(
 }
 
 // The masks of the start for which the rows have each literal of a set.
-fn meet(
-    keep: &[u64],
-    base: &[u64],
-    rows: &[u64],
-    w: u64,
-    literals: LiteralSet,
-    start: u64,
-) -> u64
+fn meet(keep: &[u64], base: &[u64], rows: &[u64], w: u64, literals: LiteralSet, start: u64) -> u64
     requires keep_len { (length keep.now ≡ 128) × (length base.now ≡ 128) }
     requires readable { Readable keep.now base.now (length rows.now) (set_of literals) }
     ensures { Met (word_of keep.now base.now rows.now w) (set_of literals) start result }

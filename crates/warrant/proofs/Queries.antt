@@ -18,10 +18,9 @@ use Rattle.answer.specs.declared.Answer.{Answer}
 use Rattle.std.specs.Prelude.{Option, Some, None}
 use Rattle.std.specs.Option.{ok_or}
 use Rattle.layout.specs.declared.Cause.TheVariants.{ArgumentTable}
-use Rattle.calls.specs.Outcomes.{Outcome, Given, Refused, by_verdict, outcome_of}
+use Rattle.calls.specs.Outcomes.{Outcome, Refused, by_verdict, outcome_of}
 use Rattle.answer.specs.Answer.{tests, forest_entries, answer}
 use Rattle.answer.specs.Tables.{front}
-use Rattle.answer.specs.Inside.Columns.{columns_after}
 use Rattle.decision.specs.Inside.Steps.{Held, settled, Settled, columns_settled}
 use Rattle.listing.specs.Inside.Listing.{with_list}
 use Rattle.calls.specs.Calls.{check_image, list_in, query_verdict, queried, unless_refused, query_arguments}

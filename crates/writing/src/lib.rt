@@ -21,8 +21,11 @@ pub fn copy(bytes: &[u8], out: &mut [u8], at: usize) -> usize
     requires { at + length bytes.now ≤ length out.old }
     ensures { Written out.old out.new at result bytes.now }
 {
-    let next = at + bytes.len();
-    out[at..next].copy_from_slice(bytes);
+    let mut next = at;
+    for k in 0..bytes.len() {
+        out[next] = bytes[k];
+        next += 1;
+    }
     next
 }
 

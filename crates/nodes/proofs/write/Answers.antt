@@ -1,5 +1,4 @@
 -- `write` meets its contract: the next row is stored behind those that stand there.
-use mathlib.Core.Path.{sym, ◌∙◌}
 use native.Mathlib.Omega.{arith}
 use Rattle.tree.specs.Inside.Tables.{held}
 use Rattle.nodes.proofs.Rows.{front_rows_next}

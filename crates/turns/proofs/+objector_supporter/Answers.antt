@@ -1,7 +1,6 @@
 -- The answers stand in the order of the code: the budget, the node that is entered, the loop; the other side's step on a reply,
 -- its tree that does not fit, its mark; no candidate is left. Each cites the law of a turn for it.
 use mathlib.Core.Path.{refl, ap}
-use native.Mathlib.Omega.{arith}
 use Rattle.literals.specs.Sets.{union}
 use Rattle.tree.proofs.Tables.{hold_kept, kept_none, kept_then, kept_marked}
 use Rattle.tree.proofs.Turn.{turn_none, turn_enters, turn_start, turn_asked, turn_ready, turn_over, turn_left, turn_mark, turn_step, turn_end, turn_kept}

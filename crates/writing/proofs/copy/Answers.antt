@@ -1,19 +1,21 @@
--- `copy` meets its contract: what stands before and after the bytes is kept.
-use mathlib.Core.Path.{◌≡◌, refl, sym, ap, ◌∙◌}
-use mathlib.Core.List.{List, ◌++◌}
-use Prim.Native.Nat.{ℕ, ◌+◌, ◌-◌, ◌≤◌}
+-- `copy` meets its contract: one byte after the other.
+use mathlib.Core.Path.{refl, ap}
 use native.Mathlib.Omega.{arith}
-use lib.ListN.{length, take, drop}
-use lib.Seq.{sets, sets-eq, take-length}
-use Rattle.std.proofs.lemmas.Slice.{put_mid-paste}
-use borrow.Rule.Slice.PartMut.{put_mid}
+use lib.ListN.{length, drop_of_length-le}
+use Rattle.lists.proofs.Stores.{writing_all, writing_one, writing_none}
+use Rattle.part.proofs.Bytes.{drop_at}
 use Rattle.writing.proofs.copy.Goals as goal
 
-whole : (at : ℕ) (t l m : List ℕ) → m ≡ l → at + length l ≤ length t → put_mid at (at + length l - at) t m ≡ sets t at l
-whole at t l m e h =
-    put_mid-paste at (at + length l - at) t m l (length l) e (omega arith) refl
-    ∙ ap (λ (x : List ℕ). take at t ++ x ++ drop (at + length l) t) (take-length l)
-    ∙ sym (sets-eq l t at h)
+pub loop-k-init : goal.loop-k-init
+loop-k-init c = writing_all _ _ _ _ refl
+
+pub bounds-out-next : goal.bounds-out-next
+bounds-out-next c =
+    let w = c.loop-k.invariant in
+    omega (arith, ap length (drop_at c.args.bytes.now c.loop-k.k c.loop-k-test.true), w.places, w.kept, c.requires)
+
+pub loop-k-preserved : goal.loop-k-preserved
+loop-k-preserved c = writing_one _ _ _ _ _ _ c.loop-k.invariant _ _ (drop_at c.args.bytes.now c.loop-k.k c.loop-k-test.true)
 
 pub returns : goal.returns
-returns c = record { stored = whole _ _ _ _ c.copy_from_slice.ensures.after c.requires; next_is = refl }
+returns c = writing_none _ _ _ _ _ _ c.loop-k.invariant (drop_of_length-le c.args.bytes.now c.loop-k-test.false)

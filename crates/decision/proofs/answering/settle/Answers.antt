@@ -10,11 +10,11 @@ use Rattle.decision.proofs.answering.settle.Goals as goal
 pub returns-in_err-count : goal.returns-in_err-count
 returns-in_err-count c = rw c.from_residual.ensures record {
   settles = λ w.
-    let plan = c.requires.plans.plan_of w.program w.holds in
-    let told = c.fill.ensures.tells w.program plan in
-    let whole = subst (Derivable w.program.rules) (sym c.union-reached.ensures) (plan_derivable w.program _ _ _ plan) in
-    settled_none w.program _ _ c.args.arguments.now _ _ (c.in_err-count.ensures.result w.program w.limits told whole)
-    (c.in_err-count.ensures.written w.program w.limits told whole);
+      let plan = c.requires.plans.plan_of w.program w.holds in
+      let told = c.fill.ensures.tells w.program plan in
+      let whole = subst (Derivable w.program.rules) (sym c.union-reached.ensures) (plan_derivable w.program _ _ _ plan) in
+      settled_none w.program _ _ c.args.arguments.now _ _ (c.in_err-count.ensures.result w.program w.limits told whole)
+      (c.in_err-count.ensures.written w.program w.limits told whole);
   kept = kept_none _;
 }
 
@@ -45,12 +45,12 @@ decide-requires c =
 pub returns : goal.returns
 returns c = record {
   settles = λ w.
-    let plan = c.requires.plans.plan_of w.program w.holds in
-    let told = c.fill.ensures.tells w.program plan in
-    let whole = subst (Derivable w.program.rules) (sym c.union-reached.ensures) (plan_derivable w.program _ _ _ plan) in
-    let result = c.in_ok-count.ensures.result w.program w.limits told whole in
-    let written = c.in_ok-count.ensures.written w.program w.limits told whole in
-    settled_listed w c.args.arguments.now result written
-    (c.decide.ensures.decided w (listing w c.args.arguments.now result written c.fill.new.rows told c.fill.ensures.laid));
+      let plan = c.requires.plans.plan_of w.program w.holds in
+      let told = c.fill.ensures.tells w.program plan in
+      let whole = subst (Derivable w.program.rules) (sym c.union-reached.ensures) (plan_derivable w.program _ _ _ plan) in
+      let result = c.in_ok-count.ensures.result w.program w.limits told whole in
+      let written = c.in_ok-count.ensures.written w.program w.limits told whole in
+      settled_listed w c.args.arguments.now result written
+      (c.decide.ensures.decided w (listing w c.args.arguments.now result written c.fill.new.rows told c.fill.ensures.laid));
   kept = c.decide.ensures.kept;
 }
