@@ -79,7 +79,16 @@ fn sources() -> Vec<PathBuf> {
 /// The first word of these that a bare number follows: where a refusal is made, handed on or compared. 0 is no cause's number.
 fn bare_number(line: &str) -> Option<&'static str> {
     let code = line.split("//").next().unwrap_or_default();
-    let words = ["number:", "number ==", "number !=", "number() ==", "number() !=", "refused("];
+    let words = [
+        "number:",
+        "number ==",
+        "number !=",
+        "number() ==",
+        "number() !=",
+        "Refused(",
+        "refused(",
+        "refusal(",
+    ];
     words.into_iter().find(|word| {
         code.split(word)
             .skip(1)
@@ -110,10 +119,14 @@ fn no_code_has_the_bare_number_of_a_cause() {
 fn bare_numbers_are_seen() {
     assert_eq!(bare_number("    number: 10,"), Some("number:"));
     assert_eq!(bare_number("if cause.number() == 6 {"), Some("number() =="));
+    assert_eq!(bare_number("Body::Refused(6)"), Some("Refused("));
+    assert_eq!(bare_number("packing::refusal(14, place)"), Some("refusal("));
     assert_eq!(bare_number("return refused( 1);"), Some("refused("));
     assert_eq!(bare_number("if number == 23 {"), Some("number =="));
     assert_eq!(bare_number("    Err(Cause::RepeatedRule.at(place))"), None);
     assert_eq!(bare_number("    number: cause.number(),"), None);
+    assert_eq!(bare_number("    number: Verdict::REPEATED_RULE,"), None);
+    assert_eq!(bare_number("Refused { number: u32, place: u32 },"), None);
     assert_eq!(bare_number("// number: 10"), None);
     assert_eq!(bare_number("    number: 0,"), None);
 }
