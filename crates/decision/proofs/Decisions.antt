@@ -68,8 +68,13 @@ GrownOf p h b before after r = MatchOption r
 
 -- the number of nodes is the budget at most
 pub grown_small : (p : Program) (h b : ℕ) (before after : Columns) (r : Option Grown) → GrownOf p h b before after r
+    → ForSome r (λ g. g.nodes ≤ b)
+grown_small p h b before after r k g e = (rw e at k).built.within
+
+-- and small enough to be concluded from
+pub grown_bound : (p : Program) (h b : ℕ) (before after : Columns) (r : Option Grown) → GrownOf p h b before after r
     → b ≤ 4096 → ForSome r (λ g. g.nodes ≤ 4097)
-grown_small p h b before after r k le g e = omega (arith, (rw e at k).built.within, le)
+grown_bound p h b before after r k le g e = omega (arith, grown_small p h b before after r k g e, le)
 
 -- ---- the answer
 

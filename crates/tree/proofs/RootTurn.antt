@@ -15,6 +15,7 @@ use Rattle.tree.specs.declared.nodes.Step.{Step}
 use Rattle.tree.specs.Inside.Tables.{Columns, Hold, Fits, Over}
 use Rattle.tree.specs.Inside.Steps.{tree_entries, Prepared, tests_in, Ready}
 use Rattle.tree.specs.Inside.Roots.{RootsReady, TreesBuilt, TreesOver}
+use Rattle.tree.proofs.Tables.{fits_hold}
 use Rattle.tree.proofs.Growing.{tree_room}
 use Rattle.tree.proofs.Listings.{prepared_listing}
 use Rattle.tree.proofs.Trees.{Rooting, rooting_start, rooting_skip, rooting_end, rooting_over, rooting_step}
@@ -86,20 +87,31 @@ module _ {f : Framework} {h : ℕ} {line₀ : List ℕ} {at limit : ℕ} {t₀ :
           rooting_over (tests_in w) (prepared_listing w) h at limit t₀ (T.rooting w) inside is_for (o w)
 
       module _ {end : ℕ} (fits : (w : Prepared f) → Fits (tree_entries (tests_in w) [] x 0 next next) next limit end t after) where
-        -- the root's mark can be read
-        pub root_turn_mark : Hold limit after → next < length after.marks
-        root_turn_mark hold =
+        -- the root has a number
+        root_turn_room : next < limit
+        root_turn_room =
             let w = T.ready.prepared in
             let b = fits w in
-            omega (arith, tree_room (tests_in w) [] x 0 next next b, b.within, hold.marks_hold)
+            omega (arith, tree_room (tests_in w) [] x 0 next next b, b.within)
 
-        pub root_turn_step : (line' : List ℕ) (found' : Bool) → length line' ≡ length line → Hold limit after
+        pub root_turn_mark : next < 4096
+        root_turn_mark = omega (arith, root_turn_room, T.ready.budget)
+
+        -- the tables have the room that they had
+        root_turn_hold : Hold limit after
+        root_turn_hold = fits_hold (fits T.ready.prepared) T.tables_hold
+
+        -- so its mark can be read
+        pub root_turn_mark_in : next < length after.marks
+        root_turn_mark_in = omega (arith, root_turn_room, root_turn_hold.marks_hold)
+
+        pub root_turn_step : (line' : List ℕ) (found' : Bool) → length line' ≡ length line
             → found' ≡ (found || eqb (get_or after.marks next 0) 1)
             → RootTurn f h line₀ at limit t₀ line' after found' end (start + 1)
-        root_turn_step line' found' nl hold e = record {
+        root_turn_step line' found' nl e = record {
           ready = T.ready;
           line_long = nl ∙ T.line_long;
-          tables_hold = hold;
+          tables_hold = root_turn_hold;
           high = (fits T.ready.prepared).within;
           rooting = λ w. rw e
               (rooting_step (tests_in w) (prepared_listing w) h at limit t₀ (T.rooting w) inside is_for (fits w) T.tables_hold.marks_hold);

@@ -5,10 +5,10 @@ use mathlib.Core.List.{List, ◌∷◌, ◌++◌, map, map-append}
 use Prim.Native.Nat.{ℕ, ◌+◌, ◌≤◌, ◌<◌}
 use native.Mathlib.Omega.{arith}
 use lib.ListN.{length, get_or, set, drop, length-map, length-set}
-use lib.Seq.{sets, sets-eq}
+use lib.Seq.{sets, sets-eq, length-sets}
 use Rattle.tree.specs.Entries.{Entry}
 use Rattle.tree.specs.declared.nodes.Columns.{Columns as Lent}
-use Rattle.tree.specs.Inside.Tables.{Columns, held, Kept, Hold, written, past}
+use Rattle.tree.specs.Inside.Tables.{Columns, held, Kept, Hold, written, opened, past, Fits}
 use Rattle.lists.proofs.Stores.{sets_append, drop_sets, get_d_first}
 
 -- ---- one column
@@ -59,15 +59,43 @@ pub written_mark : (e : Entry) (es : List Entry) (at : ℕ) (before after : Colu
 written_mark e es at before after h lt =
     ap (λ (t : Columns). get_or t.marks at 0) h ∙ get_d_first before.marks at e.mark (map (λ e. e.mark) es) lt
 
--- ---- the room in lent tables
+-- ---- the room in tables
 
-pub hold_kept : {n : ℕ} {before after : Lent} → Kept before after → Hold n (held before) → Hold n (held after)
-hold_kept k h = record {
-  indexes_hold = omega (arith, h.indexes_hold, k.indexes_long);
-  parents_hold = omega (arith, h.parents_hold, k.parents_long);
-  kinds_hold = omega (arith, h.kinds_hold, k.kinds_long);
-  marks_hold = omega (arith, h.marks_hold, k.marks_long);
+-- the table of marks is as long as it was
+pub fits_marks : {es : List Entry} {at limit r : ℕ} {before after : Columns} → Fits es at limit r before after
+    → length after.marks ≡ length before.marks
+fits_marks {es} {at} {before = before} f =
+    ap (λ (t : Columns). length t.marks) f.tables_are ∙ length-sets before.marks at (map (λ e. e.mark) es)
+
+-- tables as long as others have their room
+hold_long : {n : ℕ} {t u : Columns} → length u.indexes ≡ length t.indexes → length u.parents ≡ length t.parents
+    → length u.kinds ≡ length t.kinds → length u.marks ≡ length t.marks → Hold n t → Hold n u
+hold_long i p k m h = record {
+  indexes_hold = omega (arith, i, h.indexes_hold);
+  parents_hold = omega (arith, p, h.parents_hold);
+  kinds_hold = omega (arith, k, h.kinds_hold);
+  marks_hold = omega (arith, m, h.marks_hold);
 }
+
+-- with entries written
+pub fits_hold : {es : List Entry} {at limit r : ℕ} {before after : Columns} → Fits es at limit r before after
+    → {n : ℕ} → Hold n before → Hold n after
+fits_hold {es} {at} {before = b} f h = rw (f.tables_are)
+    (hold_long
+    (length-sets b.indexes at (map (λ e. e.argument) es))
+    (length-sets b.parents at (map (λ e. e.parent) es))
+    (length-sets b.kinds at (map (λ e. e.kind) es))
+    (length-sets b.marks at (map (λ e. e.mark) es)) h)
+
+-- with a node's entry but the mark
+pub opened_hold : (at a p k : ℕ) (t : Columns) {n : ℕ} → Hold n t → Hold n (opened at a p k t)
+opened_hold at a p k t h = hold_long (length-set t.indexes at a) (length-set t.parents at p) (length-set t.kinds at k) refl h
+
+-- lent ones that are as long as they were
+pub hold_kept : {n : ℕ} {before after : Lent} → Kept before after → Hold n (held before) → Hold n (held after)
+hold_kept k h = hold_long k.indexes_long k.parents_long k.kinds_long k.marks_long h
+
+-- ---- lent tables
 
 pub kept_none : (t : Lent) → Kept t t
 kept_none t = record {

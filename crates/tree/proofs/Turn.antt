@@ -18,6 +18,7 @@ use Rattle.tree.specs.Forest.{replies}
 use Rattle.tree.specs.Entries.{Entry, preorder}
 use Rattle.tree.specs.Inside.Tables.{Columns, Hold, opened, closed, Fits, Over}
 use Rattle.tree.specs.Inside.Steps.{line_of, tree_entries, settled_by, Prepared, tests_in, argument_of, answered, Ready, Asked, NoReply, FirstReply, Enters, Entered}
+use Rattle.tree.proofs.Tables.{fits_hold, opened_hold}
 use Rattle.tree.proofs.Growing.{Going, going_start, going_pass, going_end, going_over, going_step, tree_room, tree_none, tree_over, tree_end}
 use Rattle.tree.proofs.Steps.{line_more, line_less, ready_asked, ready_reply}
 use Rattle.tree.proofs.Listings.{prepared_count, prepared_listing}
@@ -47,10 +48,11 @@ pub record Turn (f : Framework) (line₀ : List ℕ) (s : Step) (limit : ℕ) (t
 
 module _ {f : Framework} {line : List ℕ} {s : Step} {limit : ℕ} {t : Columns} (ready : Ready f line s limit t) where
   -- no number is left
-  pub turn_none : limit ≤ s.at → ((w : Prepared f)
-      → Over (tree_entries (tests_in w) (line_of line s.depth) (argument_of f s) (number_of_kind s.kind) s.at s.parent) s.at limit t t)
-  turn_none h w =
-      tree_none (tests_in w) (prepared_listing w) (line_of line s.depth) s.index s.parent (number_of_kind s.kind) s.at limit ready.in_list t h
+  pub turn_none : limit ≤ s.at → (u : Columns)
+      → ((w : Prepared f)
+      → Over (tree_entries (tests_in w) (line_of line s.depth) (argument_of f s) (number_of_kind s.kind) s.at s.parent) s.at limit u u)
+  turn_none h u w =
+      tree_none (tests_in w) (prepared_listing w) (line_of line s.depth) s.index s.parent (number_of_kind s.kind) s.at limit ready.in_list u h
 
   module _ (room : s.at < limit) where
     line_room : s.depth < length line
@@ -67,15 +69,15 @@ module _ {f : Framework} {line : List ℕ} {s : Step} {limit : ℕ} {t : Columns
     }
 
     pub turn_start : (joined : ℕ) → joined ≡ union s.own (mask_of (argument_of f s)) → {line' : List ℕ} {t' : Columns}
-        → Entered line line' s (argument_of f s) t t' → Hold limit t'
+        → Entered line line' s (argument_of f s) t t'
         → Turn f line s limit t joined line' t' 1 (s.at + 1) 0
-    turn_start joined ej e hold = record {
+    turn_start joined ej e = record {
       ready = ready;
       joined_is = ej;
       room = room;
       line_is = ap (λ (l : List ℕ). line_of l (s.depth + 1)) e.line_is ∙ line_more line s.depth (argument_of f s) line_room;
       line_long = ap length e.line_is ∙ length-set line s.depth (argument_of f s);
-      tables_hold = hold;
+      tables_hold = rw (e.tables_are) (opened_hold s.at s.index s.parent (number_of_kind s.kind) t ready.tables_hold);
       low = omega arith;
       high = omega arith;
       start_in = omega arith;
@@ -170,20 +172,27 @@ module _ {f : Framework} {line₀ : List ℕ} {s : Step} {limit : ℕ} {t₀ : C
         turn_high : end ≤ limit
         turn_high = (below T.ready.prepared).within
 
+        pub turn_mark : next < 4096
+        turn_mark = omega (arith, turn_room, turn_high, T.ready.budget)
+
+        -- the tables have the room that they had
+        turn_hold : Hold limit t'
+        turn_hold = fits_hold (below T.ready.prepared) T.tables_hold
+
         -- so its mark can be read
-        pub turn_mark : Hold limit t' → next < length t'.marks
-        turn_mark hold = omega (arith, turn_room, turn_high, hold.marks_hold)
+        pub turn_mark_in : next < length t'.marks
+        turn_mark_in = omega (arith, turn_room, turn_high, turn_hold.marks_hold)
 
         pub turn_step : (line' : List ℕ) {mark' : ℕ} → line_of line' (s.depth + 1) ≡ line_of line (s.depth + 1)
-            → length line' ≡ length line → Hold limit t' → mark' ≡ settled_by mark (get_or t'.marks next 0)
+            → length line' ≡ length line → mark' ≡ settled_by mark (get_or t'.marks next 0)
             → Turn f line₀ s limit t₀ joined line' t' mark' end (r.index + 1)
-        turn_step line' kept nl hold em = record {
+        turn_step line' kept nl em = record {
           ready = T.ready;
           joined_is = T.joined_is;
           room = T.room;
           line_is = kept ∙ T.line_is;
           line_long = nl ∙ T.line_long;
-          tables_hold = hold;
+          tables_hold = turn_hold;
           low = omega (arith, T.low, turn_room);
           high = turn_high;
           start_in = omega (arith, first.in_list);

@@ -116,6 +116,12 @@ module _ (s : List ℕ) (h b al : ℕ) where
         by nl (λ e. le_trans small (query_accepted s h b al nl e).node_room_lem),
       )
 
+  -- a refusal leaves the node table as it was
+  pub nodes_refused : (table : List Node) (n place : ℕ) → given (length table) ≡ Refused n place → query_nodes s h b al table ≡ table
+  unfolding query_column
+  nodes_refused table n place e =
+      ap (λ (a : Outcome Answer). nodes_left a (map node_of (forest_entries (tests (program_in s)) h)) (node_of zeroed) table) e
+
   abbrev entries : List Entry
   entries = forest_entries (tests (program_in s)) h
 

@@ -2,13 +2,13 @@
 -- its tree that does not fit, its mark; no candidate is left. Each cites the law of a turn for it.
 use mathlib.Core.Path.{refl, ap}
 use Rattle.literals.specs.Sets.{union}
-use Rattle.tree.proofs.Tables.{hold_kept, kept_none, kept_then, kept_marked}
-use Rattle.tree.proofs.Turn.{turn_none, turn_enters, turn_start, turn_asked, turn_ready, turn_over, turn_left, turn_mark, turn_step, turn_end, turn_kept}
+use Rattle.tree.proofs.Tables.{kept_none, kept_then, kept_marked}
+use Rattle.tree.proofs.Turn.{turn_none, turn_enters, turn_start, turn_asked, turn_ready, turn_over, turn_left, turn_mark_in, turn_step, turn_end, turn_kept}
 use Rattle.turns.proofs.+objector_supporter.Goals as goal
 
 pub supporter-returns-then-limit-step : goal.supporter-returns-then-limit-step
 supporter-returns-then-limit-step t c = record {
-  leaves = (turn_none c.requires c.if-limit-step.true, refl);
+  leaves = (turn_none c.requires c.if-limit-step.true _, refl);
   kept = kept_none _;
 }
 
@@ -17,8 +17,7 @@ supporter-enter-requires t c = turn_enters c.requires c.if-limit-step.false
 
 pub supporter-loop-objection-init : goal.supporter-loop-objection-init
 supporter-loop-objection-init t c = (
-  turn_start c.requires c.if-limit-step.false _ (ap (union c.args.step.own) c.mask_of.ensures) c.enter.ensures.entered
-      (hold_kept c.enter.ensures.kept c.requires.tables_hold),
+  turn_start c.requires c.if-limit-step.false _ (ap (union c.args.step.own) c.mask_of.ensures) c.enter.ensures.entered,
   c.enter.ensures.kept,
 )
 
@@ -42,14 +41,14 @@ pub supporter-bounds-columns-next : goal.supporter-bounds-columns-next
 supporter-bounds-columns-next t c =
     let left = rw c.answered-reply.ensures at c.in_ok-end.ensures.leaves in
     let T = c.loop-objection.invariant.0 in
-    turn_mark T c.in-Some.ensures left.0 (hold_kept c.in_ok-end.ensures.kept T.tables_hold)
+    turn_mark_in T c.in-Some.ensures left.0
 
 pub supporter-loop-objection-preserved : goal.supporter-loop-objection-preserved
 supporter-loop-objection-preserved t c =
     let left = rw c.answered-reply.ensures at c.in_ok-end.ensures.leaves in
     let T = c.loop-objection.invariant.0 in
     let kept = c.in_ok-end.ensures.kept in (
-      turn_step T c.in-Some.ensures left.0 _ left.1 c.objector.auto.line (hold_kept kept T.tables_hold) c.settled-mark.ensures,
+      turn_step T c.in-Some.ensures left.0 _ left.1 c.objector.auto.line c.settled-mark.ensures,
       kept_then c.loop-objection.invariant.1 kept,
     )
 
@@ -61,7 +60,7 @@ supporter-returns t c = rw c.number.ensures record {
 
 pub objector-returns-then-limit-step : goal.objector-returns-then-limit-step
 objector-returns-then-limit-step t c = record {
-  leaves = (turn_none c.requires c.if-limit-step.true, refl);
+  leaves = (turn_none c.requires c.if-limit-step.true _, refl);
   kept = kept_none _;
 }
 
@@ -70,8 +69,7 @@ objector-enter-requires t c = turn_enters c.requires c.if-limit-step.false
 
 pub objector-loop-support-init : goal.objector-loop-support-init
 objector-loop-support-init t c = (
-  turn_start c.requires c.if-limit-step.false _ (ap (union c.args.step.own) c.mask_of.ensures) c.enter.ensures.entered
-      (hold_kept c.enter.ensures.kept c.requires.tables_hold),
+  turn_start c.requires c.if-limit-step.false _ (ap (union c.args.step.own) c.mask_of.ensures) c.enter.ensures.entered,
   c.enter.ensures.kept,
 )
 
@@ -95,14 +93,14 @@ pub objector-bounds-columns-next : goal.objector-bounds-columns-next
 objector-bounds-columns-next t c =
     let left = rw c.answered-reply.ensures at c.in_ok-end.ensures.leaves in
     let T = c.loop-support.invariant.0 in
-    turn_mark T c.in-Some.ensures left.0 (hold_kept c.in_ok-end.ensures.kept T.tables_hold)
+    turn_mark_in T c.in-Some.ensures left.0
 
 pub objector-loop-support-preserved : goal.objector-loop-support-preserved
 objector-loop-support-preserved t c =
     let left = rw c.answered-reply.ensures at c.in_ok-end.ensures.leaves in
     let T = c.loop-support.invariant.0 in
     let kept = c.in_ok-end.ensures.kept in (
-      turn_step T c.in-Some.ensures left.0 _ left.1 c.supporter.auto.line (hold_kept kept T.tables_hold) c.settled-mark.ensures,
+      turn_step T c.in-Some.ensures left.0 _ left.1 c.supporter.auto.line c.settled-mark.ensures,
       kept_then c.loop-support.invariant.1 kept,
     )
 

@@ -1,7 +1,7 @@
 -- `decide` meets its contract.
 use Rattle.derivation.proofs.Tables.{limits_shaped}
 use Rattle.tree.proofs.Tables.{hold_kept, kept_none, kept_then}
-use Rattle.decision.proofs.Decisions.{grown_small, decided_unknown, decided}
+use Rattle.decision.proofs.Decisions.{grown_bound, decided_unknown, decided}
 use Rattle.decision.proofs.answering.decide.Goals as goal
 
 pub occurs-requires-clause-shaped : goal.occurs-requires-clause-shaped
@@ -16,7 +16,7 @@ returns-then-not-occurs c = record {
 pub conclude-requires-clause-nodes_bound : goal.conclude-requires-clause-nodes_bound
 conclude-requires-clause-nodes_bound c =
     let w = c.requires.asked.held in
-    grown_small w.program _ _ _ _ _ (c.grow-grown.ensures.grown w c.requires.listing) c.requires.asked.budget_below
+    grown_bound w.program _ _ _ _ _ (c.grow-grown.ensures.grown w c.requires.listing) c.requires.asked.budget_below
 
 pub conclude-requires-clause-hold : goal.conclude-requires-clause-hold
 conclude-requires-clause-hold c = hold_kept c.grow-grown.ensures.kept c.requires.asked.tables_hold

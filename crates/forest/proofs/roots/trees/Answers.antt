@@ -1,7 +1,7 @@
 -- A root's step, its tree that does not fit, its mark; an argument for another literal; no argument is left.
 use mathlib.Core.Path.{refl, sym, ◌∙◌}
-use Rattle.tree.proofs.Tables.{hold_kept, kept_none, kept_then}
-use Rattle.tree.proofs.RootTurn.{root_turn_start, root_turn_skip, root_turn_end, root_turn_over, root_turn_mark, root_turn_step, root_ready}
+use Rattle.tree.proofs.Tables.{kept_none, kept_then}
+use Rattle.tree.proofs.RootTurn.{root_turn_start, root_turn_skip, root_turn_end, root_turn_over, root_turn_mark_in, root_turn_step, root_ready}
 use Rattle.forest.proofs.roots.trees.Goals as goal
 use Rattle.forest.proofs.roots.trees.Goals.{then-literal_of-literal+in_ok-end, else-literal_of-literal}
 
@@ -23,8 +23,8 @@ returns-in_err-end c =
 pub bounds-columns-next : goal.bounds-columns-next
 bounds-columns-next c =
     let T = c.loop-index.invariant.0 in
-    root_turn_mark T c.loop-index-test.true (sym c.literal_of.ensures.0 ∙ c.if-literal_of-literal.true)
-    (rw c.in_ok-end.was at c.supporter.ensures.leaves.0) (hold_kept c.supporter.ensures.kept T.tables_hold)
+    root_turn_mark_in T c.loop-index-test.true (sym c.literal_of.ensures.0 ∙ c.if-literal_of-literal.true)
+    (rw c.in_ok-end.was at c.supporter.ensures.leaves.0)
 
 pub loop-index-preserved : goal.loop-index-preserved
 loop-index-preserved c = elim c.if-literal_of-literal.branch [
@@ -33,7 +33,7 @@ loop-index-preserved c = elim c.if-literal_of-literal.branch [
       let kept = w.supporter.ensures.kept in
       rw (w.line-is, w.columns-is, w.undefeated-is, w.next-is) (
         root_turn_step T.0 c.loop-index-test.true (sym c.literal_of.ensures.0 ∙ w.if-literal_of-literal.true)
-            (rw w.in_ok-end.was at w.supporter.ensures.leaves.0) _ _ w.supporter.auto.line (hold_kept kept T.0.tables_hold) refl,
+            (rw w.in_ok-end.was at w.supporter.ensures.leaves.0) _ _ w.supporter.auto.line refl,
         kept_then T.1 kept,
       )
   | else-literal_of-literal w ↦
