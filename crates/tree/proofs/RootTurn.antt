@@ -94,6 +94,7 @@ module _ {f : Framework} {h : ℕ} {line₀ : List ℕ} {at limit : ℕ} {t₀ :
             let b = fits w in
             omega (arith, tree_room (tests_in w) [] x 0 next next b, b.within)
 
+        -- below the largest budget
         pub root_turn_mark : next < 4096
         root_turn_mark = omega (arith, root_turn_room, T.ready.budget)
 

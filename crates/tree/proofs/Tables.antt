@@ -80,12 +80,11 @@ hold_long i p k m h = record {
 -- with entries written
 pub fits_hold : {es : List Entry} {at limit r : ℕ} {before after : Columns} → Fits es at limit r before after
     → {n : ℕ} → Hold n before → Hold n after
-fits_hold {es} {at} {before = b} f h = rw (f.tables_are)
-    (hold_long
-    (length-sets b.indexes at (map (λ e. e.argument) es))
-    (length-sets b.parents at (map (λ e. e.parent) es))
-    (length-sets b.kinds at (map (λ e. e.kind) es))
-    (length-sets b.marks at (map (λ e. e.mark) es)) h)
+fits_hold {es} {at} {before = b} f h = hold_long
+    (ap (λ (t : Columns). length t.indexes) f.tables_are ∙ length-sets b.indexes at (map (λ e. e.argument) es))
+    (ap (λ (t : Columns). length t.parents) f.tables_are ∙ length-sets b.parents at (map (λ e. e.parent) es))
+    (ap (λ (t : Columns). length t.kinds) f.tables_are ∙ length-sets b.kinds at (map (λ e. e.kind) es))
+    (fits_marks f) h
 
 -- with a node's entry but the mark
 pub opened_hold : (at a p k : ℕ) (t : Columns) {n : ℕ} → Hold n t → Hold n (opened at a p k t)

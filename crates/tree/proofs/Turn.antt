@@ -172,6 +172,7 @@ module _ {f : Framework} {line₀ : List ℕ} {s : Step} {limit : ℕ} {t₀ : C
         turn_high : end ≤ limit
         turn_high = (below T.ready.prepared).within
 
+        -- below the largest budget
         pub turn_mark : next < 4096
         turn_mark = omega (arith, turn_room, turn_high, T.ready.budget)
 
